@@ -1,0 +1,4 @@
+pub mod Reading
+pub mod Exactness
+pub mod Writing
+pub mod Laying
