@@ -42,3 +42,10 @@ two-behind {X} ds row x y h =
     let s : set (x ∷ getD row (d + 1) x ∷ drop (d + 2) row) (d + 1 - d) y ≡ x ∷ y ∷ drop (d + 2) row =
     ap (λ (n : ℕ). set (x ∷ getD row (d + 1) x ∷ drop (d + 2) row) n y) one in
     ap (λ (l : List X). set (set (ds ++ l) d x) (d + 1) y) p ∙ ap (λ (l : List X). set l (d + 1) y) q ∙ r ∙ ap (λ (l : List X). ds ++ l) s ∙ sym (append-assoc ds (x ∷ y ∷ []) (drop (d + 2) row))
+
+-- what the answer of such a call tells
+pub fits-written : (n room count : ℕ) → written n room ≡ Ok count → (n ≤ room) × (count ≡ n)
+fits-written n room count e = grind (arith, tells)
+
+pub short-written : (n room : ℕ) (f : Refusal) → written n room ≡ Err f → room < n
+short-written n room f e = grind (arith, tells)

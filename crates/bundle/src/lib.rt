@@ -1,0 +1,5 @@
+// The bundle file: the tapes of one kind of event, in bytes.
+pub mod fault;
+pub mod number;
+pub mod offsets;
+pub mod reader;

@@ -1,0 +1,2 @@
+// What the lister reads and writes: the query line, the faults of all layers as one, and the lines.
+pub mod query;
