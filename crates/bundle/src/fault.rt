@@ -45,7 +45,10 @@ impl BundleFault {
         ensures { λ r. ⌜ r ≡ spanOf (now (self .entry)) ⌝ }
     {
         match self {
-            BundleFault::Kind => Some(Span { start: 0, length: 2 }),
+            BundleFault::Kind => Some(Span {
+                start: 0,
+                length: 2,
+            }),
             BundleFault::Offsets { span, .. } => Some(*span),
             BundleFault::Event { span, .. } => Some(*span),
             _ => None,

@@ -76,7 +76,10 @@ fn check_offsets(file: &[u8]) -> Result<(), BundleFault>
         let here = offset_at(file, index);
         if !is_right(index == 0, before, here, index == tapes, events as u32) {
             let start = HEADER + OFFSET_WIDTH * index;
-            let span = Span { start, length: OFFSET_WIDTH };
+            let span = Span {
+                start,
+                length: OFFSET_WIDTH,
+            };
             return Err(BundleFault::Offsets { index, span });
         }
         before = here;
@@ -136,7 +139,11 @@ fn copy_events<K: Kind>(file: &[u8], row: &mut [K])
 }
 
 /// Reads a bundle file into the fronts of two rows, and returns how many tapes and events it has. A refusal leaves both rows as they were.
-pub fn read_bundle<K: Kind>(file: &[u8], offsets: &mut [u32], events: &mut [K]) -> Result<(usize, usize), BundleFault>
+pub fn read_bundle<K: Kind>(
+    file: &[u8],
+    offsets: &mut [u32],
+    events: &mut [K],
+) -> Result<(usize, usize), BundleFault>
     ensures answer { λ r. ⌜ r ≡ orFault (readFault (K·Kind .number) (K·Kind .width) (K·Kind .stands) (now (file .entry)) (length (now (offsets .entry))) (length (now (events .entry)))) (tapesIn (now (file .entry)), eventsIn (now (file .entry))) ⌝ }
     ensures offsets_after { λ _. ⌜ now (offsets .exit) ≡ filled (readFault (K·Kind .number) (K·Kind .width) (K·Kind .stands) (now (file .entry)) (length (now (offsets .entry))) (length (now (events .entry)))) (offsetsIn (now (file .entry))) (now (offsets .entry)) ⌝ }
     ensures events_after { λ _. ⌜ now (events .exit) ≡ filled (readFault (K·Kind .number) (K·Kind .width) (K·Kind .stands) (now (file .entry)) (length (now (offsets .entry))) (length (now (events .entry)))) (eventsOf (K·Kind .width) (K·Kind .stands) (now (file .entry))) (now (events .entry)) ⌝ }

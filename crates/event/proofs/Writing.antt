@@ -14,6 +14,6 @@ length-digit n h = ap length (decimal-digit n h)
 pub length-step : (n : ℕ) → 10 ≤ n → n < 2 ^ 64 → length (decimal n) ≡ length (decimal (n / 10)) + 1
 length-step n ten small = ap length (decimal-step n ten small) ∙ length-push (decimal (n / 10)) (48 + n % 10)
 
--- 32 bits take at most ten digits
-pub length-most : (n : ℕ) → n < 2 ^ 32 → length (decimal n) ≤ 10
-length-most n h = length-decimal-le 10 n (omega arith) (omega arith) (omega arith)
+-- 64 bits take at most twenty digits
+pub length-most : (n : ℕ) → n < 2 ^ 64 → length (decimal n) ≤ 20
+length-most n h = length-decimal-le 20 n (omega arith) (omega arith) h

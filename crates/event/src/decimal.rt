@@ -8,9 +8,9 @@ ghost use Rattle.event.specs.Rows.{written, laid};
 use crate::refusal::Refusal;
 
 /// How many digits a number has in decimal.
-pub fn decimal_length(n: u32) -> usize
+pub fn decimal_length(n: u64) -> usize
     ensures value { λ r. ⌜ r ≡ length (decimal n) ⌝ }
-    ensures bound { λ r. ⌜ r ≤ 10 ⌝ }
+    ensures bound { λ r. ⌜ r ≤ 20 ⌝ }
 {
     if n < 10 {
         1
@@ -20,7 +20,7 @@ pub fn decimal_length(n: u32) -> usize
 }
 
 // Fills a row with a number's digits.
-fn put_digits(n: u32, row: &mut [u8])
+fn put_digits(n: u64, row: &mut [u8])
     requires { ⌜ length (now row) ≡ length (decimal n) ⌝ }
     ensures { λ _. ⌜ now (row .exit) ≡ decimal n ⌝ }
 {
@@ -32,7 +32,7 @@ fn put_digits(n: u32, row: &mut [u8])
 }
 
 /// Writes a number in decimal at a row's front and says how many digits; where they have no room, ROOM, and the row stays.
-pub fn write_decimal(n: u32, row: &mut [u8]) -> Result<usize, Refusal>
+pub fn write_decimal(n: u64, row: &mut [u8]) -> Result<usize, Refusal>
     ensures answer { λ r. ⌜ r ≡ written (length (decimal n)) (length (now (row .entry))) ⌝ }
     ensures after { λ _. ⌜ now (row .exit) ≡ laid (decimal n) (now (row .entry)) ⌝ }
 {

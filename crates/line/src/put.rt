@@ -20,7 +20,7 @@ fn put_bytes(bytes: &[u8], at: usize, row: &mut [u8]) -> usize
     end
 }
 
-fn put_number(n: u32, at: usize, row: &mut [u8]) -> usize
+fn put_number(n: u64, at: usize, row: &mut [u8]) -> usize
     requires { ⌜ at + length (decimal n) ≤ length (now row) ⌝ }
     ensures value { λ r. ⌜ r ≡ at + length (decimal n) ⌝ }
     ensures after { λ _. ⌜ now (row .exit) ≡ putAt at (decimal n) (now (row .entry)) ⌝ }

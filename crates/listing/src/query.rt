@@ -64,8 +64,15 @@ pub fn read_query(line: &[u8]) -> Result<Query, QueryFault>
         return Err(QueryFault::Line);
     };
     let start = first + 1 + second + 1;
-    let text = Span { start, length: line.len() - start };
-    Ok(Query { threshold: threshold.into(), longest: longest.into(), text })
+    let text = Span {
+        start,
+        length: line.len() - start,
+    };
+    Ok(Query {
+        threshold: threshold.into(),
+        longest: longest.into(),
+        text,
+    })
 }
 
 /// A line is read as a query exactly if it is written as one.

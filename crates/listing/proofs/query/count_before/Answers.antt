@@ -1,0 +1,15 @@
+use native.Mathlib.Omega.{arith}
+use Rattle.listing.proofs.Cutting.{before-here, before-more, before-all}
+use Rattle.listing.proofs.query.count_before.Needs as need
+
+pub loop-i-holds : need.loop-i-holds
+loop-i-holds c = omega arith
+
+pub returns-then-b-value : need.returns-then-b-value
+returns-then-b-value c = omega (arith, before-here (c .args .value) (c .args .bytes .now) (c .loop-i .i) (omega arith) (c .if-b-value .taken))
+
+pub loop-i-again : need.loop-i-again
+loop-i-again c = omega (arith, before-more (c .args .value) (c .args .bytes .now) (c .loop-i .i) (omega arith) (c .if-b-value .left))
+
+pub returns : need.returns
+returns c = omega (arith, before-all (c .args .value) (c .args .bytes .now) (c .loop-i .i) (omega arith))
