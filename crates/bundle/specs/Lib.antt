@@ -2,3 +2,4 @@ pub mod Faults
 pub mod Numbers
 pub mod Offsets
 pub mod Bundles
+pub mod Tapes

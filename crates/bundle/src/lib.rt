@@ -3,3 +3,4 @@ pub mod fault;
 pub mod number;
 pub mod offsets;
 pub mod reader;
+pub mod tape;

@@ -1,0 +1,11 @@
+pub mod Lowest
+pub mod Lawful
+pub mod Parts
+pub mod Bytes
+pub mod Pieces
+pub mod Rows
+pub mod Events
+pub mod Verdicts
+pub mod Checks
+pub mod Format
+pub mod Cuts
