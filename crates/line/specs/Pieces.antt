@@ -4,13 +4,15 @@ use mathlib.Core.List.{List, [], _∷_, _++_}
 use Prim.Native.Nat.{ℕ, _+_, _-_, _/_, _%_}
 use lib.Dec.{leb, ltb}
 use lib.ListN.{length, take, drop}
-use denote.Ref.{now}
+use lib.Chars.{codes}
 use Rattle.std.specs.Joined.{joined}
 use Rattle.std.specs.Written.{decimal}
 use Rattle.std.specs.declared.option.Option.{Option}
 use Rattle.std.specs.declared.option.Option.the-variants.{Some, None}
+use Rattle.line.specs.declared.piece.Word.{Word}
+use Rattle.line.specs.declared.piece.Word.the-variants.{Tapes, Events, Threshold, Length, Refused, Query, Bundle, Space, Dash, LineFeed}
 use Rattle.line.specs.declared.piece.Piece.{Piece}
-use Rattle.line.specs.declared.piece.Piece.the-variants.{Text, Number, Hex, Labels}
+use Rattle.line.specs.declared.piece.Piece.the-variants as piece
 
 -- the upper-case hexadecimal digit of a number below 16
 abbrev pub hexDigit : ℕ → ℕ
@@ -29,16 +31,29 @@ abbrev pub parted : {K : Type 0} → (K → List ℕ) → List K → List ℕ
 parted label [] = []
 parted label (e ∷ es) = label e ++ joined (spaced label) es
 
--- the bytes of a piece
-abbrev pub bytesOf : {K : Type 0} → (K → List ℕ) → Piece K → List ℕ
-bytesOf label (Text bytes) = now bytes
-bytesOf label (Number n) = decimal n
-bytesOf label (Hex bytes) = joined hexPair (now bytes)
-bytesOf label (Labels events) = parted label (now events)
+-- the text of a word
+abbrev pub wordText : Word → List ℕ
+wordText Tapes = codes "tapes "
+wordText Events = codes " events "
+wordText Threshold = codes " threshold "
+wordText Length = codes " length "
+wordText Refused = codes "refused "
+wordText Query = codes " query "
+wordText Bundle = codes " bundle "
+wordText Space = codes " "
+wordText Dash = codes "-"
+wordText LineFeed = codes "\n"
 
--- the bytes of a line
-abbrev pub lineOf : {K : Type 0} → (K → List ℕ) → List (Piece K) → List ℕ
-lineOf label pieces = joined (bytesOf label) pieces
+-- the text of a piece, with the bytes and the events that are given
+abbrev pub pieceText : {K : Type 0} → (K → List ℕ) → List ℕ → List K → Piece → List ℕ
+pieceText label bytes events (piece.Word w) = wordText w
+pieceText label bytes events (piece.Number n) = decimal n
+pieceText label bytes events piece.Bytes = joined hexPair bytes
+pieceText label bytes events piece.Labels = parted label events
+
+-- the text of a line
+abbrev pub lineText : {K : Type 0} → (K → List ℕ) → List ℕ → List K → List Piece → List ℕ
+lineText label bytes events pieces = joined (pieceText label bytes events) pieces
 
 -- what so many bytes leave of a room, if they fit
 abbrev pub left : ℕ → ℕ → Option ℕ

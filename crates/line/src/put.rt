@@ -3,8 +3,9 @@ ghost use Prim.Native.Nat.{ℕ, _+_, _*_, _<_, _≤_};
 ghost use lib.ListN.{length};
 ghost use Rattle.std.specs.Joined.{joined};
 ghost use Rattle.std.specs.Written.{decimal};
-ghost use Rattle.line.specs.Pieces.{hexDigit, hexPair, spaced, parted, bytesOf, putAt};
+ghost use Rattle.line.specs.Pieces.{hexDigit, hexPair, spaced, parted, pieceText, putAt};
 use crate::piece::Piece;
+use crate::piece::word_text;
 use event::decimal::write_decimal;
 use event::kind::Kind;
 
@@ -87,15 +88,15 @@ fn put_labels<K: Kind>(events: &[K], at: usize, row: &mut [u8]) -> usize
     put_spaced(&events[1..], place, row)
 }
 
-pub(crate) fn put_piece<K: Kind>(piece: &Piece<'_, K>, at: usize, row: &mut [u8]) -> usize
-    requires { ⌜ at + length (bytesOf (K·Kind .label) (now piece)) ≤ length (now row) ⌝ }
-    ensures value { λ r. ⌜ r ≡ at + length (bytesOf (K·Kind .label) (now (piece .entry))) ⌝ }
-    ensures after { λ _. ⌜ now (row .exit) ≡ putAt at (bytesOf (K·Kind .label) (now (piece .entry))) (now (row .entry)) ⌝ }
+pub(crate) fn put_piece<K: Kind>(piece: Piece, bytes: &[u8], events: &[K], at: usize, row: &mut [u8]) -> usize
+    requires { ⌜ at + length (pieceText (K·Kind .label) (now bytes) (now events) piece) ≤ length (now row) ⌝ }
+    ensures value { λ r. ⌜ r ≡ at + length (pieceText (K·Kind .label) (now (bytes .entry)) (now (events .entry)) piece) ⌝ }
+    ensures after { λ _. ⌜ now (row .exit) ≡ putAt at (pieceText (K·Kind .label) (now (bytes .entry)) (now (events .entry)) piece) (now (row .entry)) ⌝ }
 {
     match piece {
-        Piece::Text(bytes) => put_bytes(*bytes, at, row),
-        Piece::Number(n) => put_number(*n, at, row),
-        Piece::Hex(bytes) => put_hex(*bytes, at, row),
-        Piece::Labels(events) => put_labels(*events, at, row),
+        Piece::Word(word) => put_bytes(word_text(word), at, row),
+        Piece::Number(n) => put_number(n, at, row),
+        Piece::Bytes => put_hex(bytes, at, row),
+        Piece::Labels => put_labels(events, at, row),
     }
 }

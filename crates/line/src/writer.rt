@@ -3,8 +3,9 @@ ghost use Prim.Native.Nat.{ℕ, _+_, _*_, _<_, _≤_};
 ghost use lib.ListN.{length};
 ghost use Rattle.std.specs.Joined.{joined};
 ghost use Rattle.event.specs.Rows.{written, laid};
-ghost use Rattle.line.specs.Pieces.{hexPair, spaced, parted, bytesOf, lineOf, left};
+ghost use Rattle.line.specs.Pieces.{hexPair, spaced, parted, pieceText, lineText, left};
 use crate::piece::Piece;
+use crate::piece::word_text;
 use crate::put::put_piece;
 use event::decimal::decimal_length;
 use event::kind::Kind;
@@ -49,39 +50,39 @@ fn after_hex(room: usize, bytes: &[u8]) -> Option<usize>
 }
 
 // What a piece leaves of a room, if it fits.
-fn after_piece<K: Kind>(room: usize, piece: &Piece<'_, K>) -> Option<usize>
-    ensures { λ r. ⌜ r ≡ left room (length (bytesOf (K·Kind .label) (now (piece .entry)))) ⌝ }
+fn after_piece<K: Kind>(room: usize, piece: Piece, bytes: &[u8], events: &[K]) -> Option<usize>
+    ensures { λ r. ⌜ r ≡ left room (length (pieceText (K·Kind .label) (now (bytes .entry)) (now (events .entry)) piece)) ⌝ }
 {
     match piece {
-        Piece::Text(bytes) => after_bytes(room, bytes.len()),
-        Piece::Number(n) => after_bytes(room, decimal_length(*n)),
-        Piece::Hex(bytes) => after_hex(room, *bytes),
-        Piece::Labels(events) => after_labels(room, *events),
+        Piece::Word(word) => after_bytes(room, word_text(word).len()),
+        Piece::Number(n) => after_bytes(room, decimal_length(n)),
+        Piece::Bytes => after_hex(room, bytes),
+        Piece::Labels => after_labels(room, events),
     }
 }
 
-/// What a line leaves of a room, if it fits.
-pub fn room_after<K: Kind>(room: usize, pieces: &[Piece<'_, K>]) -> Option<usize>
-    ensures { λ r. ⌜ r ≡ left room (length (lineOf (K·Kind .label) (now (pieces .entry)))) ⌝ }
+// What a line leaves of a room, if it fits.
+fn after_line<K: Kind>(room: usize, pieces: &[Piece], bytes: &[u8], events: &[K]) -> Option<usize>
+    ensures { λ r. ⌜ r ≡ left room (length (lineText (K·Kind .label) (now (bytes .entry)) (now (events .entry)) (now (pieces .entry)))) ⌝ }
 {
     let mut rest = room;
     for piece in pieces {
-        rest = after_piece(rest, piece)?;
+        rest = after_piece(rest, *piece, bytes, events)?;
     }
     Some(rest)
 }
 
 /// Writes a line at a row's front and returns its length; where it has no room, ROOM, and the row stays.
-pub fn write_line<K: Kind>(pieces: &[Piece<'_, K>], row: &mut [u8]) -> Result<usize, Refusal>
-    ensures answer { λ r. ⌜ r ≡ written (length (lineOf (K·Kind .label) (now (pieces .entry)))) (length (now (row .entry))) ⌝ }
-    ensures after { λ _. ⌜ now (row .exit) ≡ laid (lineOf (K·Kind .label) (now (pieces .entry))) (now (row .entry)) ⌝ }
+pub fn write_line<K: Kind>(pieces: &[Piece], bytes: &[u8], events: &[K], row: &mut [u8]) -> Result<usize, Refusal>
+    ensures answer { λ r. ⌜ r ≡ written (length (lineText (K·Kind .label) (now (bytes .entry)) (now (events .entry)) (now (pieces .entry)))) (length (now (row .entry))) ⌝ }
+    ensures after { λ _. ⌜ now (row .exit) ≡ laid (lineText (K·Kind .label) (now (bytes .entry)) (now (events .entry)) (now (pieces .entry))) (now (row .entry)) ⌝ }
 {
-    let Some(_) = room_after(row.len(), pieces) else {
+    let Some(_) = after_line(row.len(), pieces, bytes, events) else {
         return Err(Refusal::Room);
     };
     let mut at = 0;
     for piece in pieces {
-        at = put_piece(piece, at, row);
+        at = put_piece(*piece, bytes, events, at, row);
     }
     Ok(at)
 }
