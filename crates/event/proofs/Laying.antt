@@ -5,8 +5,8 @@ use mathlib.Core.List.{List, [], _∷_, _++_, append-assoc}
 use Prim.Native.Nat.{ℕ, _+_, _-_, _<_, _≤_}
 use native.Mathlib.Omega.{arith}
 use lib.Dec.{leb}
-use lib.ListN.{length, getD, drop, set}
-use Rattle.std.proofs.shelf.Lists.{drop-more, set-at, set-append-right, length-append}
+use lib.ListN.{length, getD, take, drop, set}
+use Rattle.std.proofs.shelf.Lists.{drop-more, set-at, set-append-right, take-at}
 use Rattle.std.proofs.shelf.Ways.{tells}
 use Rattle.std.specs.declared.result.Result.{Result}
 use Rattle.std.specs.declared.result.Result.the-variants.{Ok, Err}
@@ -49,3 +49,9 @@ fits-written n room count e = grind (arith, tells)
 
 pub short-written : (n room : ℕ) (f : Refusal) → written n room ≡ Err f → room < n
 short-written n room f e = grind (arith, tells)
+
+-- what was written stands at the row's front
+pub take-laid : (bs row : List ℕ) (count : ℕ) → written (length bs) (length row) ≡ Ok count → take count (laid bs row) ≡ bs
+take-laid bs row count e =
+    let f = fits-written (length bs) (length row) count e in
+    ap (take count) (laid-fits bs row (f .0)) ∙ take-at bs (drop (length bs) row) count (sym (f .1))

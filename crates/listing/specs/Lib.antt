@@ -1,3 +1,5 @@
 pub mod Queries
 pub mod Faults
 pub mod Texts
+pub mod Replies
+pub mod Lines
