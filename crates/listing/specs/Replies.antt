@@ -1,13 +1,14 @@
 -- What the lister answers to an input.
-use mathlib.Core.Bool.{Bool, true, false, cond, _&&_}
+use mathlib.Core.Bool.{Bool, true, false, cond}
 use mathlib.Core.List.{List, [], _∷_, _++_}
 use Prim.Native.Nat.{ℕ, _+_, _-_}
 use lib.Dec.{leb, ltb, eqb}
 use lib.ListN.{length, take, drop}
 use Rattle.std.specs.Joined.{joined}
-use Rattle.std.specs.Options.{isSome, mapped}
 use Rattle.std.specs.declared.option.Option.{Option}
 use Rattle.std.specs.declared.option.Option.the-variants.{Some, None}
+use Rattle.std.specs.declared.result.Result.{Result}
+use Rattle.std.specs.declared.result.Result.the-variants.{Ok, Err}
 use Rattle.event.specs.Scanners as scanner
 use Rattle.event.specs.Stations as station
 use Rattle.bundle.specs.declared.fault.BundleFault.{BundleFault}
@@ -19,7 +20,9 @@ use Rattle.listing.specs.declared.query.QueryFault.{QueryFault}
 use Rattle.listing.specs.declared.query.QueryFault.the-variants.{Input, Line}
 use Rattle.listing.specs.declared.fault.ListerFault.{ListerFault}
 use Rattle.listing.specs.declared.fault.ListerFault.the-variants as lister
-use Rattle.listing.specs.Queries.{before, queryIn}
+use Rattle.listing.specs.declared.reply.FileKind.{FileKind}
+use Rattle.listing.specs.declared.reply.FileKind.the-variants.{Scanner, Station}
+use Rattle.listing.specs.Queries.{before, queryIn, orLine}
 use Rattle.listing.specs.Texts.{headText, tapeText, refusedText}
 
 -- the query line: what stands before the first line feed, or all
@@ -30,46 +33,48 @@ queryLine input = take (before 10 input) input
 abbrev pub bundlePart : List ℕ → List ℕ
 bundlePart input = drop (before 10 input + 1) input
 
--- what is wrong with the input or its query line, if anything
-abbrev pub queryFault : List ℕ → Option QueryFault
-queryFault input =
-    cond (leb (length input) 32768) (cond (ltb (before 10 input) (length input) && isSome (queryIn (queryLine input))) None (Some Line)) (Some Input)
+-- the query of an input that is not too long and has a line feed
+abbrev pub requested : List ℕ → Result Query QueryFault
+requested input =
+    cond (leb (length input) 32768) (cond (ltb (before 10 input) (length input)) (orLine (queryIn (queryLine input))) (Err Line)) (Err Input)
 
--- what is chosen by the kind number in a bundle file of eight bytes and more: for kind 1, for kind 2, and else
-abbrev pub byKind : {X : Type 0} → List ℕ → (one two neither : X) → X
-byKind file one two neither = cond (eqb (kindIn file) 1) one (cond (eqb (kindIn file) 2) two neither)
+-- the kind that a bundle file names
+abbrev pub kindFor : List ℕ → Result FileKind BundleFault
+kindFor file =
+    cond (leb 8 (length file)) (cond (eqb (kindIn file) 1) (Ok Scanner) (cond (eqb (kindIn file) 2) (Ok Station) (Err Kind))) (Err Short)
 
--- what is wrong with the bundle, if anything, for the kind that it names
-abbrev pub bundleFault : List ℕ → Option BundleFault
-bundleFault file =
-    cond (leb 8 (length file)) (byKind file (fileFault 1 2 scanner.standsFor file) (fileFault 2 4 station.standsFor file) (Some Kind)) (Some Short)
+-- what is wrong with a bundle file of a kind, if anything
+abbrev pub kindFault : Result FileKind BundleFault → List ℕ → Option BundleFault
+kindFault (Ok Scanner) file = fileFault 1 2 scanner.standsFor file
+kindFault (Ok Station) file = fileFault 2 4 station.standsFor file
+kindFault (Err f) file = Some f
 
--- the first fault of the query, else of the bundle
-abbrev pub eitherFault : Option QueryFault → Option BundleFault → Option ListerFault
-eitherFault (Some f) b = Some (lister.Query f)
-eitherFault None (Some f) = Some (lister.Bundle f)
-eitherFault None None = None
+-- the fault of the query, else of the bundle
+abbrev pub eitherFault : Result Query QueryFault → Option BundleFault → Option ListerFault
+eitherFault (Err f) b = Some (lister.Query f)
+eitherFault (Ok q) (Some f) = Some (lister.Bundle f)
+eitherFault (Ok q) None = None
 
--- why the lister refuses an input, if it does
+-- why the lister refuses an input, if it does: the input's length, the query line, the bundle, in this order
 abbrev pub faultIn : List ℕ → Option ListerFault
-faultIn input = eitherFault (queryFault input) (bundleFault (bundlePart input))
+faultIn input = eitherFault (requested input) (kindFault (kindFor (bundlePart input)) (bundlePart input))
 
 -- the lines of a query and a bundle: what was read, and each tape
-abbrev pub tapesText : {K : Type 0} → (K → List ℕ) → (threshold longest : ℕ) → (offsets : List ℕ) → (events : List K) → List ℕ
-tapesText label threshold longest offsets events =
-    headText (length offsets - 1) (length events) threshold longest ++ joined (tapeText label) (tapes events offsets)
+abbrev pub tapesText : {K : Type 0} → (K → List ℕ) → Query → (offsets : List ℕ) → (events : List K) → List ℕ
+tapesText label query offsets events =
+    headText (length offsets - 1) (length events) (query .threshold) (query .longest) ++ joined (tapeText label) (tapes events offsets)
 
--- the same of a bundle file, by the kind that it names
-abbrev pub fileText : (threshold longest : ℕ) → List ℕ → List ℕ
-fileText threshold longest file =
-    byKind file (tapesText scanner.labelOf threshold longest (offsetsIn file) (eventsOf 2 scanner.standsFor file)) (tapesText station.labelOf threshold longest (offsetsIn file) (eventsOf 4 station.standsFor file)) []
-
--- the lines of the query, where there is one
-abbrev pub listText : Option Query → List ℕ → List ℕ
-listText (Some q) file = fileText (q .threshold) (q .longest) file
-listText None file = []
+-- the same of a query and a bundle file as they were read, by the file's kind
+abbrev pub listText : Result Query QueryFault → Result FileKind BundleFault → List ℕ → List ℕ
+listText (Ok q) (Ok Scanner) file = tapesText scanner.labelOf q (offsetsIn file) (eventsOf 2 scanner.standsFor file)
+listText (Ok q) (Ok Station) file = tapesText station.labelOf q (offsetsIn file) (eventsOf 4 station.standsFor file)
+listText (Ok q) (Err f) file = []
+listText (Err f) k file = []
 
 -- the text that is written: the list, or the line of the refusal
-abbrev pub replyText : Option ListerFault → List ℕ → List ℕ
-replyText (Some f) input = refusedText f (queryLine input) (bundlePart input)
-replyText None input = listText (queryIn (queryLine input)) (bundlePart input)
+abbrev pub answerText : Option ListerFault → List ℕ → List ℕ
+answerText (Some f) input = refusedText f (queryLine input) (bundlePart input)
+answerText None input = listText (requested input) (kindFor (bundlePart input)) (bundlePart input)
+
+abbrev pub replyText : List ℕ → List ℕ
+replyText input = answerText (faultIn input) input

@@ -2,4 +2,5 @@
 pub mod fault;
 pub mod output;
 pub mod query;
+pub mod reply;
 pub mod text;

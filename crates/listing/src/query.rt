@@ -24,7 +24,8 @@ pub enum QueryFault {
 
 /// How many bytes stand before the first of a value, or all where there is none.
 pub fn count_before(value: u8, bytes: &[u8]) -> usize
-    ensures { λ r. ⌜ r ≡ before value (now (bytes .entry)) ⌝ }
+    ensures value { λ r. ⌜ r ≡ before value (now (bytes .entry)) ⌝ }
+    ensures within { λ r. ⌜ r ≤ length (now (bytes .entry)) ⌝ }
 {
     for (i, b) in bytes.iter().enumerate() {
         if *b == value {

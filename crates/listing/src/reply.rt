@@ -1,0 +1,86 @@
+ghost use mathlib.Core.Path.{_≡_};
+ghost use mathlib.Core.List.{_++_};
+ghost use Prim.Native.Nat.{ℕ, _<_, _≤_};
+ghost use lib.ListN.{length, take};
+ghost use Rattle.std.specs.Of.Vec.{vec-items};
+ghost use Rattle.std.specs.Options.{isSome};
+ghost use Rattle.std.specs.Results.{Cases};
+ghost use Rattle.std.specs.Vec.{made};
+ghost use Rattle.bundle.specs.Bundles.{offsetsIn, eventsOf, fileFault};
+ghost use Rattle.listing.specs.Replies.{queryLine, bundlePart, requested, kindFor};
+use crate::fault::ListerFault;
+use crate::fault::ListerFromBundle;
+use crate::fault::ListerFromQuery;
+use crate::output::Line;
+use crate::output::append;
+use crate::query::Query;
+use crate::query::QueryFault;
+use crate::query::count_before;
+use crate::query::read_query;
+use bundle::fault::BundleFault;
+use bundle::reader::MOST_EVENTS;
+use bundle::reader::MOST_TAPES;
+use bundle::reader::read_bundle;
+use bundle::tape::tape_at;
+use event::kind::Kind;
+use event::scanner::Scanner;
+use event::scanner::ScannerKind;
+use event::station::Station;
+use event::station::StationKind;
+use std::alloc::AllocError;
+use std::alloc::Global;
+
+/// The most bytes that the lister takes.
+pub const MOST_INPUT: usize = 32_768;
+
+/// The query line: what stands before the first line feed, or all.
+pub fn query_line(input: &[u8]) -> &[u8]
+    ensures { λ r. ⌜ now r ≡ queryLine (now (input .entry)) ⌝ }
+{
+    &input[0..count_before(b'\n', input)]
+}
+
+/// The bundle: what stands behind that line feed.
+pub fn bundle_part(input: &[u8]) -> &[u8]
+    ensures { λ r. ⌜ now r ≡ bundlePart (now (input .entry)) ⌝ }
+{
+    let end = count_before(b'\n', input);
+    if end >= input.len() {
+        return &input[0..0];
+    }
+    &input[end + 1..]
+}
+
+/// The query of an input that is not too long.
+pub fn read_request(input: &[u8]) -> Result<Query, QueryFault>
+    ensures { λ r. ⌜ r ≡ requested (now (input .entry)) ⌝ }
+{
+    if input.len() > MOST_INPUT {
+        return Err(QueryFault::Input);
+    }
+    if count_before(b'\n', input) >= input.len() {
+        return Err(QueryFault::Line);
+    }
+    read_query(query_line(input))
+}
+
+/// A kind that the lister knows.
+#[derive(Clone, Copy)]
+pub enum FileKind {
+    Scanner,
+    Station,
+}
+
+/// The kind that a bundle file names.
+pub fn file_kind(file: &[u8]) -> Result<FileKind, BundleFault>
+    ensures { λ r. ⌜ r ≡ kindFor (now (file .entry)) ⌝ }
+{
+    let [high, low, _, _, _, _, _, _, ..] = file else {
+        return Err(BundleFault::Short);
+    };
+    match u16::from_be_bytes([*high, *low]) {
+        ScannerKind::NUMBER => Ok(FileKind::Scanner),
+        StationKind::NUMBER => Ok(FileKind::Station),
+        _ => Err(BundleFault::Kind),
+    }
+}
