@@ -20,6 +20,15 @@ module _ {K : Type 0} (events : List K) where
   cut-past from (to ∷ more) zero h = absurd (omega arith)
   cut-past from (to ∷ more) (suc t) h = cut-past to more t (omega arith)
 
+  length-cut : (from : ℕ) (offsets : List ℕ) → length (cut events from offsets) ≡ length offsets
+  length-cut from [] = refl
+  length-cut from (to ∷ more) = ap suc (length-cut to more)
+
+  -- there is one tape less than there are offsets
+  pub length-tapes : (offsets : List ℕ) → length (tapes events offsets) ≡ length offsets - 1
+  length-tapes [] = refl
+  length-tapes (from ∷ more) = let l = length-cut from more in omega arith
+
   -- a tape lies between its offset and the next
   pub tape-between : (offsets : List ℕ) (t : ℕ) → t + 1 < length offsets → getD (tapes events offsets) t [] ≡ between events (getD offsets t 0) (getD offsets (t + 1) 0)
   tape-between [] t h = absurd (omega arith)

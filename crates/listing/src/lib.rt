@@ -1,5 +1,6 @@
 // What the lister reads and writes: the query line, the faults of all layers as one, and the lines.
 pub mod fault;
+pub mod list;
 pub mod output;
 pub mod query;
 pub mod reply;

@@ -1,0 +1,96 @@
+ghost use mathlib.Core.Path.{_≡_};
+ghost use mathlib.Core.List.{_++_};
+ghost use Prim.Native.Nat.{ℕ, _+_, _<_, _≤_};
+ghost use lib.ListN.{length};
+ghost use Rattle.std.specs.Of.Vec.{vec-items};
+ghost use Rattle.std.specs.Options.{isSome};
+ghost use Rattle.std.specs.Vec.{made};
+ghost use Rattle.bundle.specs.Bundles.{tapesIn, eventsIn, offsetsIn, eventsOf, fileFault, readFault, filled};
+ghost use Rattle.listing.specs.declared.list.ListError.the-variants as listing;
+ghost use Rattle.listing.specs.Outcomes.{orRefused, bundleOnly, Outcome};
+ghost use Rattle.listing.specs.Replies.{faultIn, tapesText, listText, kindFor, bundlePart, requested, replyText};
+use crate::fault::ListerFault;
+use crate::fault::ListerFromBundle;
+use crate::fault::ListerFromQuery;
+use crate::output::Line;
+use crate::output::append;
+use crate::query::Query;
+use crate::reply::FileKind;
+use crate::reply::bundle_part;
+use crate::reply::file_kind;
+use crate::reply::query_line;
+use crate::reply::read_request;
+use bundle::reader::MOST_EVENTS;
+use bundle::reader::MOST_TAPES;
+use bundle::reader::read_bundle;
+use bundle::tape::tape_at;
+use event::kind::Kind;
+use event::scanner::Scanner;
+use event::scanner::ScannerKind;
+use event::station::Station;
+use event::station::StationKind;
+use std::alloc::AllocError;
+use std::alloc::Global;
+
+/// Why there is no list: a refusal, or want of memory.
+#[derive(Clone, Copy)]
+pub enum ListError {
+    Refused(ListerFault),
+    Memory,
+}
+
+pub impl From<ListerFault> for ListError as ListFromFault {
+    ghost converts = { λ e r. r ≡ listing.Refused e };
+
+    fn from(fault: ListerFault) -> ListError {
+        ListError::Refused(fault)
+    }
+}
+
+pub impl From<AllocError> for ListError as ListFromAlloc {
+    ghost converts = { λ _ r. r ≡ listing.Memory };
+
+    fn from(_error: AllocError) -> ListError {
+        ListError::Memory
+    }
+}
+
+// Appends what was read, and each tape.
+fn append_tapes<K: Kind>(query: &Query, offsets: &[u32], events: &[K], row: &mut Vec<u8>, text: &mut Vec<u8>) -> Result<(), AllocError>
+    ensures { λ r. ⌜ made r (λ _. vec-items (now (text .exit)) ≡ vec-items (now (text .entry)) ++ tapesText (K·Kind .label) (now (query .entry)) (now (offsets .entry)) (now (events .entry))) ⌝ }
+{
+    let tapes = offsets.len().saturating_sub(1);
+    let head: Line<'_, K> = Line::Head {
+        tapes,
+        events: events.len(),
+        query,
+    };
+    append(&head, row, text)?;
+    for number in 0..tapes {
+        append(&Line::Tape(tape_at(events, offsets, number)), row, text)?;
+    }
+    Ok(())
+}
+
+// Reads the bundle into two rows; its fault becomes the lister's.
+fn read_tapes<K: Kind>(file: &[u8], offsets: &mut [u32], events: &mut [K]) -> Result<(usize, usize), ListerFault>
+    ensures answer { λ r. ⌜ r ≡ orRefused (readFault (K·Kind .number) (K·Kind .width) (K·Kind .stands) (now (file .entry)) (length (now (offsets .entry))) (length (now (events .entry)))) (tapesIn (now (file .entry)), eventsIn (now (file .entry))) ⌝ }
+    ensures offsets_after { λ _. ⌜ now (offsets .exit) ≡ filled (readFault (K·Kind .number) (K·Kind .width) (K·Kind .stands) (now (file .entry)) (length (now (offsets .entry))) (length (now (events .entry)))) (offsetsIn (now (file .entry))) (now (offsets .entry)) ⌝ }
+    ensures events_after { λ _. ⌜ now (events .exit) ≡ filled (readFault (K·Kind .number) (K·Kind .width) (K·Kind .stands) (now (file .entry)) (length (now (offsets .entry))) (length (now (events .entry)))) (eventsOf (K·Kind .width) (K·Kind .stands) (now (file .entry))) (now (events .entry)) ⌝ }
+{
+    let counts = read_bundle(file, offsets, events)?;
+    Ok(counts)
+}
+
+// Appends the list of a query and a bundle file of a kind.
+fn append_file<K: Kind>(heap: Global, query: &Query, file: &[u8], blank: K, text: &mut Vec<u8>) -> Result<(), ListError>
+    ensures { λ r. ⌜ Outcome (bundleOnly (fileFault (K·Kind .number) (K·Kind .width) (K·Kind .stands) (now (file .entry)))) (vec-items (now (text .entry))) (tapesText (K·Kind .label) (now (query .entry)) (offsetsIn (now (file .entry))) (eventsOf (K·Kind .width) (K·Kind .stands) (now (file .entry)))) (vec-items (now (text .exit))) r ⌝ }
+{
+    let mut offsets = vec![in heap; 0u32; MOST_TAPES + 1]?;
+    let mut events = Vec::new(heap);
+    events.resize(MOST_EVENTS, blank)?;
+    let (tape_count, event_count) = read_tapes(file, offsets.as_mut_slice(), events.as_mut_slice())?;
+    let mut row = Vec::new(heap);
+    append_tapes(query, &offsets[0..tape_count + 1], &events[0..event_count], &mut row, text)?;
+    Ok(())
+}
