@@ -82,15 +82,25 @@ fn read_tapes<K: Kind>(file: &[u8], offsets: &mut [u32], events: &mut [K]) -> Re
     Ok(counts)
 }
 
-// Appends the list of a query and a bundle file of a kind.
-fn append_file<K: Kind>(heap: Global, query: &Query, file: &[u8], blank: K, text: &mut Vec<u8>) -> Result<(), ListError>
+// Appends the list of a query and a bundle file of a kind, read into rows that have room for every bundle.
+fn append_read<K: Kind>(heap: Global, query: &Query, file: &[u8], offsets: &mut [u32], events: &mut [K], text: &mut Vec<u8>) -> Result<(), ListError>
+    requires offset_room { ⌜ 513 ≤ length (now offsets) ⌝ }
+    requires event_room { ⌜ 65535 ≤ length (now events) ⌝ }
     ensures { λ r. ⌜ Outcome (bundleOnly (fileFault (K·Kind .number) (K·Kind .width) (K·Kind .stands) (now (file .entry)))) (vec-items (now (text .entry))) (tapesText (K·Kind .label) (now (query .entry)) (offsetsIn (now (file .entry))) (eventsOf (K·Kind .width) (K·Kind .stands) (now (file .entry)))) (vec-items (now (text .exit))) r ⌝ }
 {
-    let mut offsets = vec![in heap; 0u32; MOST_TAPES + 1]?;
-    let mut events = Vec::new(heap);
-    events.resize(MOST_EVENTS, blank)?;
-    let (tape_count, event_count) = read_tapes(file, offsets.as_mut_slice(), events.as_mut_slice())?;
+    let (tape_count, event_count) = read_tapes(file, offsets, events)?;
     let mut row = Vec::new(heap);
     append_tapes(query, &offsets[0..tape_count + 1], &events[0..event_count], &mut row, text)?;
     Ok(())
+}
+
+// The same, with rows of its own.
+fn append_file<K: Kind>(heap: Global, query: &Query, file: &[u8], blank: K, text: &mut Vec<u8>) -> Result<(), ListError>
+    ensures { λ r. ⌜ Outcome (bundleOnly (fileFault (K·Kind .number) (K·Kind .width) (K·Kind .stands) (now (file .entry)))) (vec-items (now (text .entry))) (tapesText (K·Kind .label) (now (query .entry)) (offsetsIn (now (file .entry))) (eventsOf (K·Kind .width) (K·Kind .stands) (now (file .entry)))) (vec-items (now (text .exit))) r ⌝ }
+{
+    let mut offsets = Vec::new(heap);
+    offsets.resize(MOST_TAPES + 1, 0u32)?;
+    let mut events = Vec::new(heap);
+    events.resize(MOST_EVENTS, blank)?;
+    append_read(heap, query, file, offsets.as_mut_slice(), events.as_mut_slice(), text)
 }
