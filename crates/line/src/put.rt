@@ -88,7 +88,13 @@ fn put_labels<K: Kind>(events: &[K], at: usize, row: &mut [u8]) -> usize
     put_spaced(&events[1..], place, row)
 }
 
-pub(crate) fn put_piece<K: Kind>(piece: Piece, bytes: &[u8], events: &[K], at: usize, row: &mut [u8]) -> usize
+pub(crate) fn put_piece<K: Kind>(
+    piece: Piece,
+    bytes: &[u8],
+    events: &[K],
+    at: usize,
+    row: &mut [u8],
+) -> usize
     requires { ⌜ at + length (pieceText (K·Kind .label) (now bytes) (now events) piece) ≤ length (now row) ⌝ }
     ensures value { λ r. ⌜ r ≡ at + length (pieceText (K·Kind .label) (now (bytes .entry)) (now (events .entry)) piece) ⌝ }
     ensures after { λ _. ⌜ now (row .exit) ≡ putAt at (pieceText (K·Kind .label) (now (bytes .entry)) (now (events .entry)) piece) (now (row .entry)) ⌝ }

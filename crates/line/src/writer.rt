@@ -73,7 +73,12 @@ fn after_line<K: Kind>(room: usize, pieces: &[Piece], bytes: &[u8], events: &[K]
 }
 
 /// Writes a line at a row's front and returns its length; where it has no room, ROOM, and the row stays.
-pub fn write_line<K: Kind>(pieces: &[Piece], bytes: &[u8], events: &[K], row: &mut [u8]) -> Result<usize, Refusal>
+pub fn write_line<K: Kind>(
+    pieces: &[Piece],
+    bytes: &[u8],
+    events: &[K],
+    row: &mut [u8],
+) -> Result<usize, Refusal>
     ensures answer { λ r. ⌜ r ≡ written (length (lineText (K·Kind .label) (now (bytes .entry)) (now (events .entry)) (now (pieces .entry)))) (length (now (row .entry))) ⌝ }
     ensures after { λ _. ⌜ now (row .exit) ≡ laid (lineText (K·Kind .label) (now (bytes .entry)) (now (events .entry)) (now (pieces .entry))) (now (row .entry)) ⌝ }
 {

@@ -2,3 +2,4 @@ pub mod Appending
 pub mod Asking
 pub mod Cutting
 pub mod Filed
+pub mod Front

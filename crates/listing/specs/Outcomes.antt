@@ -8,19 +8,28 @@ use Rattle.std.specs.declared.result.Result.{Result}
 use Rattle.std.specs.declared.result.Result.the-variants.{Ok, Err}
 use Rattle.bundle.specs.declared.fault.BundleFault.{BundleFault}
 use Rattle.listing.specs.declared.fault.ListerFault.{ListerFault}
-use Rattle.listing.specs.declared.fault.ListerFault.the-variants.{Query, Bundle}
+use Rattle.listing.specs.declared.fault.ListerFault.the-variants as fault
+use Rattle.listing.specs.declared.query.Query.{Query}
+use Rattle.listing.specs.declared.query.QueryFault.{QueryFault}
+use Rattle.listing.specs.declared.input.FileKind.{FileKind}
 use Rattle.listing.specs.declared.list.ListError.{ListError}
 use Rattle.listing.specs.declared.list.ListError.the-variants.{Refused, Memory}
 
 -- an answer, or the bundle's fault within the lister's
 abbrev pub orRefused : {X : Type 0} → Option BundleFault → X → Result X ListerFault
 orRefused None x = Ok x
-orRefused (Some f) x = Err (Bundle f)
+orRefused (Some f) x = Err (fault.Bundle f)
+
+-- the query and the kind of event, or the first fault within the lister's
+abbrev pub frontOf : Result Query QueryFault → Result FileKind BundleFault → Result (Query × FileKind) ListerFault
+frontOf (Err f) k = Err (fault.Query f)
+frontOf (Ok q) (Err f) = Err (fault.Bundle f)
+frontOf (Ok q) (Ok k) = Ok (q, k)
 
 -- the bundle's fault within the lister's, if there is one
 abbrev pub bundleOnly : Option BundleFault → Option ListerFault
 bundleOnly None = None
-bundleOnly (Some f) = Some (Bundle f)
+bundleOnly (Some f) = Some (fault.Bundle f)
 
 -- what holds of a fault, the text before, the list that is asked for and the text after, by the answer:
 -- the list was appended and there is no fault, or the text is as it was and the fault is returned, or memory was short

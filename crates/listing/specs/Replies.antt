@@ -20,8 +20,8 @@ use Rattle.listing.specs.declared.query.QueryFault.{QueryFault}
 use Rattle.listing.specs.declared.query.QueryFault.the-variants.{Input, Line}
 use Rattle.listing.specs.declared.fault.ListerFault.{ListerFault}
 use Rattle.listing.specs.declared.fault.ListerFault.the-variants as lister
-use Rattle.listing.specs.declared.reply.FileKind.{FileKind}
-use Rattle.listing.specs.declared.reply.FileKind.the-variants.{Scanner, Station}
+use Rattle.listing.specs.declared.input.FileKind.{FileKind}
+use Rattle.listing.specs.declared.input.FileKind.the-variants.{Scanner, Station}
 use Rattle.listing.specs.Queries.{before, queryIn, orLine}
 use Rattle.listing.specs.Texts.{headText, tapeText, refusedText}
 

@@ -7,19 +7,19 @@ ghost use Rattle.std.specs.Options.{isSome};
 ghost use Rattle.std.specs.Vec.{made};
 ghost use Rattle.bundle.specs.Bundles.{tapesIn, eventsIn, offsetsIn, eventsOf, fileFault, readFault, filled};
 ghost use Rattle.listing.specs.declared.list.ListError.the-variants as listing;
-ghost use Rattle.listing.specs.Outcomes.{orRefused, bundleOnly, Outcome};
+ghost use Rattle.listing.specs.Outcomes.{orRefused, bundleOnly, frontOf, Outcome};
 ghost use Rattle.listing.specs.Replies.{faultIn, tapesText, listText, kindFor, bundlePart, requested, replyText};
 use crate::fault::ListerFault;
 use crate::fault::ListerFromBundle;
 use crate::fault::ListerFromQuery;
+use crate::input::FileKind;
+use crate::input::bundle_part;
+use crate::input::file_kind;
+use crate::input::query_line;
+use crate::input::read_request;
 use crate::output::Line;
 use crate::output::append;
 use crate::query::Query;
-use crate::reply::FileKind;
-use crate::reply::bundle_part;
-use crate::reply::file_kind;
-use crate::reply::query_line;
-use crate::reply::read_request;
 use bundle::reader::MOST_EVENTS;
 use bundle::reader::MOST_TAPES;
 use bundle::reader::read_bundle;
@@ -56,7 +56,13 @@ pub impl From<AllocError> for ListError as ListFromAlloc {
 }
 
 // Appends what was read, and each tape.
-fn append_tapes<K: Kind>(query: &Query, offsets: &[u32], events: &[K], row: &mut Vec<u8>, text: &mut Vec<u8>) -> Result<(), AllocError>
+fn append_tapes<K: Kind>(
+    query: &Query,
+    offsets: &[u32],
+    events: &[K],
+    row: &mut Vec<u8>,
+    text: &mut Vec<u8>,
+) -> Result<(), AllocError>
     ensures { λ r. ⌜ made r (λ _. vec-items (now (text .exit)) ≡ vec-items (now (text .entry)) ++ tapesText (K·Kind .label) (now (query .entry)) (now (offsets .entry)) (now (events .entry))) ⌝ }
 {
     let tapes = offsets.len().saturating_sub(1);
@@ -73,7 +79,11 @@ fn append_tapes<K: Kind>(query: &Query, offsets: &[u32], events: &[K], row: &mut
 }
 
 // Reads the bundle into two rows; its fault becomes the lister's.
-fn read_tapes<K: Kind>(file: &[u8], offsets: &mut [u32], events: &mut [K]) -> Result<(usize, usize), ListerFault>
+fn read_tapes<K: Kind>(
+    file: &[u8],
+    offsets: &mut [u32],
+    events: &mut [K],
+) -> Result<(usize, usize), ListerFault>
     ensures answer { λ r. ⌜ r ≡ orRefused (readFault (K·Kind .number) (K·Kind .width) (K·Kind .stands) (now (file .entry)) (length (now (offsets .entry))) (length (now (events .entry)))) (tapesIn (now (file .entry)), eventsIn (now (file .entry))) ⌝ }
     ensures offsets_after { λ _. ⌜ now (offsets .exit) ≡ filled (readFault (K·Kind .number) (K·Kind .width) (K·Kind .stands) (now (file .entry)) (length (now (offsets .entry))) (length (now (events .entry)))) (offsetsIn (now (file .entry))) (now (offsets .entry)) ⌝ }
     ensures events_after { λ _. ⌜ now (events .exit) ≡ filled (readFault (K·Kind .number) (K·Kind .width) (K·Kind .stands) (now (file .entry)) (length (now (offsets .entry))) (length (now (events .entry)))) (eventsOf (K·Kind .width) (K·Kind .stands) (now (file .entry))) (now (events .entry)) ⌝ }
@@ -83,24 +93,115 @@ fn read_tapes<K: Kind>(file: &[u8], offsets: &mut [u32], events: &mut [K]) -> Re
 }
 
 // Appends the list of a query and a bundle file of a kind, read into rows that have room for every bundle.
-fn append_read<K: Kind>(heap: Global, query: &Query, file: &[u8], offsets: &mut [u32], events: &mut [K], text: &mut Vec<u8>) -> Result<(), ListError>
+fn append_read<K: Kind>(
+    heap: Global,
+    query: &Query,
+    file: &[u8],
+    offsets: &mut [u32],
+    events: &mut [K],
+    text: &mut Vec<u8>,
+) -> Result<(), ListError>
     requires offset_room { ⌜ 513 ≤ length (now offsets) ⌝ }
     requires event_room { ⌜ 65535 ≤ length (now events) ⌝ }
     ensures { λ r. ⌜ Outcome (bundleOnly (fileFault (K·Kind .number) (K·Kind .width) (K·Kind .stands) (now (file .entry)))) (vec-items (now (text .entry))) (tapesText (K·Kind .label) (now (query .entry)) (offsetsIn (now (file .entry))) (eventsOf (K·Kind .width) (K·Kind .stands) (now (file .entry)))) (vec-items (now (text .exit))) r ⌝ }
 {
     let (tape_count, event_count) = read_tapes(file, offsets, events)?;
     let mut row = Vec::new(heap);
-    append_tapes(query, &offsets[0..tape_count + 1], &events[0..event_count], &mut row, text)?;
+    append_tapes(
+        query,
+        &offsets[0..tape_count + 1],
+        &events[0..event_count],
+        &mut row,
+        text,
+    )?;
     Ok(())
 }
 
 // The same, with rows of its own.
-fn append_file<K: Kind>(heap: Global, query: &Query, file: &[u8], blank: K, text: &mut Vec<u8>) -> Result<(), ListError>
+fn append_file<K: Kind>(
+    heap: Global,
+    query: &Query,
+    file: &[u8],
+    blank: K,
+    text: &mut Vec<u8>,
+) -> Result<(), ListError>
     ensures { λ r. ⌜ Outcome (bundleOnly (fileFault (K·Kind .number) (K·Kind .width) (K·Kind .stands) (now (file .entry)))) (vec-items (now (text .entry))) (tapesText (K·Kind .label) (now (query .entry)) (offsetsIn (now (file .entry))) (eventsOf (K·Kind .width) (K·Kind .stands) (now (file .entry)))) (vec-items (now (text .exit))) r ⌝ }
 {
     let mut offsets = Vec::new(heap);
     offsets.resize(MOST_TAPES + 1, 0u32)?;
     let mut events = Vec::new(heap);
     events.resize(MOST_EVENTS, blank)?;
-    append_read(heap, query, file, offsets.as_mut_slice(), events.as_mut_slice(), text)
+    append_read(
+        heap,
+        query,
+        file,
+        offsets.as_mut_slice(),
+        events.as_mut_slice(),
+        text,
+    )
+}
+
+// The query and the kind of event; a fault of either becomes the lister's.
+fn read_front(input: &[u8]) -> Result<(Query, FileKind), ListerFault>
+    ensures { λ r. ⌜ r ≡ frontOf (requested (now (input .entry))) (kindFor (bundlePart (now (input .entry)))) ⌝ }
+{
+    let query = read_request(input)?;
+    let kind = file_kind(bundle_part(input))?;
+    Ok((query, kind))
+}
+
+/// Appends the list that an input asks for.
+pub fn append_list(heap: Global, input: &[u8], text: &mut Vec<u8>) -> Result<(), ListError>
+    ensures { λ r. ⌜ Outcome (faultIn (now (input .entry))) (vec-items (now (text .entry))) (listText (requested (now (input .entry))) (kindFor (bundlePart (now (input .entry)))) (bundlePart (now (input .entry)))) (vec-items (now (text .exit))) r ⌝ }
+{
+    let (query, kind) = read_front(input)?;
+    let file = bundle_part(input);
+    match kind {
+        FileKind::Scanner => {
+            let blank = Scanner { code: 0 };
+            append_file::<ScannerKind>(heap, &query, file, blank, text)
+        }
+        FileKind::Station => {
+            let blank = Station {
+                action: 1,
+                outcome: 0,
+                station: 0,
+            };
+            append_file::<StationKind>(heap, &query, file, blank, text)
+        }
+    }
+}
+
+/// What the lister answers: the text that it writes, and whether that is a refusal.
+#[derive(Drop)]
+pub struct Reply {
+    pub text: Vec<u8>,
+    pub refused: bool,
+}
+
+/// The answer to an input: its list, or the line of the refusal.
+pub fn reply_to(heap: Global, input: &[u8]) -> Result<Reply, AllocError>
+    ensures { λ r. ⌜ made r (λ x. (vec-items (x .text) ≡ replyText (now (input .entry))) × (x .refused ≡ isSome (faultIn (now (input .entry))))) ⌝ }
+{
+    let mut text = Vec::new(heap);
+    match append_list(heap, input, &mut text) {
+        Ok(()) => Ok(Reply {
+            text,
+            refused: false,
+        }),
+        Err(ListError::Refused(fault)) => {
+            let mut row = Vec::new(heap);
+            let line: Line<'_, Scanner> = Line::Refused {
+                fault: &fault,
+                query: query_line(input),
+                bundle: bundle_part(input),
+            };
+            append::<ScannerKind>(&line, &mut row, &mut text)?;
+            Ok(Reply {
+                text,
+                refused: true,
+            })
+        }
+        Err(ListError::Memory) => Err(AllocError),
+    }
 }

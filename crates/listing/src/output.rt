@@ -41,9 +41,17 @@ impl<'a, K: Kind> Line<'a, K> {
         ensures after { λ _. ⌜ now (row .exit) ≡ laid (textOf (K·Kind .label) (now (self .entry))) (now (row .entry)) ⌝ }
     {
         match self {
-            Line::Head { tapes, events, query } => write_head(*tapes, *events, *query, row),
+            Line::Head {
+                tapes,
+                events,
+                query,
+            } => write_head(*tapes, *events, *query, row),
             Line::Tape(tape) => write_tape(*tape, row),
-            Line::Refused { fault, query, bundle } => write_refused(*fault, *query, *bundle, row),
+            Line::Refused {
+                fault,
+                query,
+                bundle,
+            } => write_refused(*fault, *query, *bundle, row),
         }
     }
 }
@@ -62,7 +70,11 @@ fn grow(row: &mut Vec<u8>) -> Result<(), AllocError>
 }
 
 /// Appends a line to a text. The row is where it is written first, and grows to the longest line.
-pub fn append<K: Kind>(line: &Line<'_, K>, row: &mut Vec<u8>, text: &mut Vec<u8>) -> Result<(), AllocError>
+pub fn append<K: Kind>(
+    line: &Line<'_, K>,
+    row: &mut Vec<u8>,
+    text: &mut Vec<u8>,
+) -> Result<(), AllocError>
     ensures { λ r. ⌜ made r (λ _. vec-items (now (text .exit)) ≡ vec-items (now (text .entry)) ++ textOf (K·Kind .label) (now (line .entry))) ⌝ }
 {
     loop {

@@ -18,7 +18,12 @@ use line::writer::write_line;
 // Each of these writes a line with its line feed at a row's front and returns its length; where it has no room, ROOM, and the row stays.
 
 /// The line of what was read: the counts of the bundle, and the numbers of the query.
-pub fn write_head(tapes: usize, events: usize, query: &Query, row: &mut [u8]) -> Result<usize, Refusal>
+pub fn write_head(
+    tapes: usize,
+    events: usize,
+    query: &Query,
+    row: &mut [u8],
+) -> Result<usize, Refusal>
     ensures answer { λ r. ⌜ r ≡ written (length (headText tapes events (now (query .entry) .threshold) (now (query .entry) .longest))) (length (now (row .entry))) ⌝ }
     ensures after { λ _. ⌜ now (row .exit) ≡ laid (headText tapes events (now (query .entry) .threshold) (now (query .entry) .longest)) (now (row .entry)) ⌝ }
 {
@@ -56,7 +61,12 @@ fn source_word(source: Source) -> Word
 }
 
 /// The line of a refusal: its number, the input at fault, the place there, and the bytes at fault.
-pub fn write_refused(fault: &ListerFault, query: &[u8], bundle: &[u8], row: &mut [u8]) -> Result<usize, Refusal>
+pub fn write_refused(
+    fault: &ListerFault,
+    query: &[u8],
+    bundle: &[u8],
+    row: &mut [u8],
+) -> Result<usize, Refusal>
     ensures answer { λ r. ⌜ r ≡ written (length (refusedText (now (fault .entry)) (now (query .entry)) (now (bundle .entry)))) (length (now (row .entry))) ⌝ }
     ensures after { λ _. ⌜ now (row .exit) ≡ laid (refusedText (now (fault .entry)) (now (query .entry)) (now (bundle .entry))) (now (row .entry)) ⌝ }
 {
@@ -65,7 +75,11 @@ pub fn write_refused(fault: &ListerFault, query: &[u8], bundle: &[u8], row: &mut
         None => 0,
     };
     let bytes = bytes_at_fault(fault, query, bundle);
-    let shown = if bytes.is_empty() { Piece::Word(Word::Dash) } else { Piece::Bytes };
+    let shown = if bytes.is_empty() {
+        Piece::Word(Word::Dash)
+    } else {
+        Piece::Bytes
+    };
     let pieces = [
         Piece::Word(Word::Refused),
         Piece::Number(fault.refusal().number().into()),

@@ -61,7 +61,7 @@ returns g c =
     ap (take (e - 0)) (c .read-tapes .ensures .events-after) ∙ front-filled fault (eventsOf width stands file) (c .args .events .now) (e - 0) (r .1) (omega (arith, r .3)) (omega (arith, r .3, r .5)) in
     let was = vec-items (c .args .text .now) in
     let label = g .K·Kind .label in
-    let query = c .args .query .now in
-    ( ap bundleOnly (r .0)
-    , c .in-Continue-append-tapes .ensures tt ∙ ap (λ (os : List ℕ). was ++ tapesText label query os (take (e - 0) (c .read-tapes .last .events))) offsets ∙ ap (λ (es : List _). was ++ tapesText label query (offsetsIn file) es) events
+    let query = c .args .query .now in (
+      ap bundleOnly (r .0),
+      c .in-Continue-append-tapes .ensures tt ∙ ap (λ (os : List ℕ). was ++ tapesText label query os (take (e - 0) (c .read-tapes .last .events))) offsets ∙ ap (λ (es : List _). was ++ tapesText label query (offsetsIn file) es) events,
     )

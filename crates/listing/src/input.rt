@@ -1,34 +1,12 @@
 ghost use mathlib.Core.Path.{_≡_};
-ghost use mathlib.Core.List.{_++_};
-ghost use Prim.Native.Nat.{ℕ, _<_, _≤_};
-ghost use lib.ListN.{length, take};
-ghost use Rattle.std.specs.Of.Vec.{vec-items};
-ghost use Rattle.std.specs.Options.{isSome};
-ghost use Rattle.std.specs.Results.{Cases};
-ghost use Rattle.std.specs.Vec.{made};
-ghost use Rattle.bundle.specs.Bundles.{offsetsIn, eventsOf, fileFault};
 ghost use Rattle.listing.specs.Replies.{queryLine, bundlePart, requested, kindFor};
-use crate::fault::ListerFault;
-use crate::fault::ListerFromBundle;
-use crate::fault::ListerFromQuery;
-use crate::output::Line;
-use crate::output::append;
 use crate::query::Query;
 use crate::query::QueryFault;
 use crate::query::count_before;
 use crate::query::read_query;
 use bundle::fault::BundleFault;
-use bundle::reader::MOST_EVENTS;
-use bundle::reader::MOST_TAPES;
-use bundle::reader::read_bundle;
-use bundle::tape::tape_at;
-use event::kind::Kind;
-use event::scanner::Scanner;
 use event::scanner::ScannerKind;
-use event::station::Station;
 use event::station::StationKind;
-use std::alloc::AllocError;
-use std::alloc::Global;
 
 /// The most bytes that the lister takes.
 pub const MOST_INPUT: usize = 32_768;

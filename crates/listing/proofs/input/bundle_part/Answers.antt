@@ -4,7 +4,7 @@ use native.Mathlib.Omega.{arith}
 use lib.ListN.{drop}
 use Rattle.std.proofs.shelf.Lists.{drop-all, take-rest}
 use Rattle.listing.specs.Queries.{before}
-use Rattle.listing.proofs.reply.bundle_part.Needs as need
+use Rattle.listing.proofs.input.bundle_part.Needs as need
 
 pub returns-then-end-input : need.returns-then-end-input
 returns-then-end-input c = let v = c .count-before-end .ensures .value in sym (drop-all (before 10 (c .args .input .now) + 1) (c .args .input .now) (omega arith))
