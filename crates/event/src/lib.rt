@@ -3,7 +3,6 @@ pub mod decimal;
 pub mod kind;
 pub mod order;
 pub mod refusal;
-pub mod row;
 pub mod scanner;
 pub mod span;
 pub mod station;

@@ -9,7 +9,6 @@ use crate::kind::Kind;
 use crate::order::Order;
 use crate::order::compare_numbers;
 use crate::refusal::Refusal;
-use crate::row::lay;
 
 /// The largest action; the smallest is 1.
 pub const MOST_ACTION: u8 = 99;

@@ -29,7 +29,9 @@ impl From<AllocError> for Failure as FailureFromAlloc {
 // All of standard input, but no more than one byte past the limit.
 fn read_input(rt: &LibcRuntime) -> io::Result<Vec<u8>> {
     let mut input = Vec::new(rt.alloc());
-    rt.stdin().take(MOST_INPUT as u64 + 1).read_to_end(&mut input)?;
+    rt.stdin()
+        .take(MOST_INPUT as u64 + 1)
+        .read_to_end(&mut input)?;
     Ok(input)
 }
 

@@ -1,5 +1,3 @@
 pub mod Appending
-pub mod Asking
-pub mod Cutting
 pub mod Filed
 pub mod Front

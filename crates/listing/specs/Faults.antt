@@ -9,8 +9,8 @@ use Rattle.event.specs.declared.refusal.Refusal.the-variants as refusal
 use Rattle.event.specs.declared.span.Span.{Span}
 use Rattle.event.specs.Spans.{span, spanned}
 use Rattle.bundle.specs.Faults as bundle
-use Rattle.listing.specs.declared.query.QueryFault.{QueryFault}
-use Rattle.listing.specs.declared.query.QueryFault.the-variants.{Input, Line}
+use Rattle.query.specs.declared.line.QueryFault.{QueryFault}
+use Rattle.query.specs.declared.line.QueryFault.the-variants.{Input, Line}
 use Rattle.listing.specs.declared.fault.ListerFault.{ListerFault}
 use Rattle.listing.specs.declared.fault.ListerFault.the-variants.{Query, Bundle}
 use Rattle.listing.specs.declared.fault.Source.{Source}

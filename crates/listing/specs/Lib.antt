@@ -1,4 +1,3 @@
-pub mod Queries
 pub mod Faults
 pub mod Texts
 pub mod Replies

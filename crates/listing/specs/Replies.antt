@@ -15,14 +15,14 @@ use Rattle.bundle.specs.declared.fault.BundleFault.{BundleFault}
 use Rattle.bundle.specs.declared.fault.BundleFault.the-variants.{Short, Kind}
 use Rattle.bundle.specs.Bundles.{kindIn, offsetsIn, eventsOf, fileFault}
 use Rattle.bundle.specs.Tapes.{tapes}
-use Rattle.listing.specs.declared.query.Query.{Query}
-use Rattle.listing.specs.declared.query.QueryFault.{QueryFault}
-use Rattle.listing.specs.declared.query.QueryFault.the-variants.{Input, Line}
+use Rattle.query.specs.declared.line.Query.{Query}
+use Rattle.query.specs.declared.line.QueryFault.{QueryFault}
+use Rattle.query.specs.declared.line.QueryFault.the-variants.{Input, Line}
 use Rattle.listing.specs.declared.fault.ListerFault.{ListerFault}
 use Rattle.listing.specs.declared.fault.ListerFault.the-variants as lister
 use Rattle.listing.specs.declared.input.FileKind.{FileKind}
 use Rattle.listing.specs.declared.input.FileKind.the-variants.{Scanner, Station}
-use Rattle.listing.specs.Queries.{before, queryIn, orLine}
+use Rattle.query.specs.Queries.{before, queryIn, orLine}
 use Rattle.listing.specs.Texts.{headText, tapeText, refusedText}
 
 -- the query line: what stands before the first line feed, or all

@@ -1,11 +1,11 @@
 ghost use mathlib.Core.Path.{_≡_};
 ghost use Rattle.listing.specs.Faults.{refusalOf, sourceOf, spanOf, bytesAtFault};
 ghost use Rattle.listing.specs.declared.fault.ListerFault.the-variants as lister;
-use crate::query::QueryFault;
 use bundle::fault::BundleFault;
 use event::refusal::Refusal;
 use event::span::Span;
 use event::span::part;
+use query::line::QueryFault;
 
 /// Why the lister refuses: the fault of the layer below, whole.
 #[derive(Clone, Copy)]

@@ -1,12 +1,12 @@
 ghost use mathlib.Core.Path.{_≡_};
 ghost use Rattle.listing.specs.Replies.{queryLine, bundlePart, requested, kindFor};
-use crate::query::Query;
-use crate::query::QueryFault;
-use crate::query::count_before;
-use crate::query::read_query;
 use bundle::fault::BundleFault;
 use event::scanner::ScannerKind;
 use event::station::StationKind;
+use query::line::Query;
+use query::line::QueryFault;
+use query::line::count_before;
+use query::line::read_query;
 
 /// The most bytes that the lister takes.
 pub const MOST_INPUT: usize = 32_768;

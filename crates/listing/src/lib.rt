@@ -3,5 +3,4 @@ pub mod fault;
 pub mod input;
 pub mod list;
 pub mod output;
-pub mod query;
 pub mod text;

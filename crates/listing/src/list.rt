@@ -19,7 +19,6 @@ use crate::input::query_line;
 use crate::input::read_request;
 use crate::output::Line;
 use crate::output::append;
-use crate::query::Query;
 use bundle::reader::MOST_EVENTS;
 use bundle::reader::MOST_TAPES;
 use bundle::reader::read_bundle;
@@ -29,6 +28,7 @@ use event::scanner::Scanner;
 use event::scanner::ScannerKind;
 use event::station::Station;
 use event::station::StationKind;
+use query::line::Query;
 use std::alloc::AllocError;
 use std::alloc::Global;
 

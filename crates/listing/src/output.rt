@@ -7,16 +7,15 @@ ghost use Rattle.std.specs.Vec.{made};
 ghost use Rattle.event.specs.Rows.{written, laid};
 ghost use Rattle.listing.specs.Lines.{textOf};
 use crate::fault::ListerFault;
-use crate::query::Query;
 use crate::text::write_head;
 use crate::text::write_refused;
 use crate::text::write_tape;
 use event::kind::Kind;
 use event::refusal::Refusal;
+use query::line::Query;
 use std::alloc::AllocError;
 
 /// A line that the lister writes.
-#[derive(Clone, Copy)]
 pub enum Line<'a, K> {
     /// What was read.
     Head {

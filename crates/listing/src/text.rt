@@ -6,7 +6,6 @@ ghost use Rattle.listing.specs.Texts.{headText, tapeText, sourceText, shown, r
 use crate::fault::ListerFault;
 use crate::fault::Source;
 use crate::fault::bytes_at_fault;
-use crate::query::Query;
 use event::kind::Kind;
 use event::refusal::Refusal;
 use event::scanner::Scanner;
@@ -14,6 +13,7 @@ use event::scanner::ScannerKind;
 use line::piece::Piece;
 use line::piece::Word;
 use line::writer::write_line;
+use query::line::Query;
 
 // Each of these writes a line with its line feed at a row's front and returns its length; where it has no room, ROOM, and the row stays.
 

@@ -3,7 +3,7 @@ use Prim.Native.Nat.{ℕ, _+_}
 use native.Mathlib.Omega.{arith}
 use lib.ListN.{drop}
 use Rattle.std.proofs.shelf.Lists.{drop-all, take-rest}
-use Rattle.listing.specs.Queries.{before}
+use Rattle.query.specs.Queries.{before}
 use Rattle.listing.proofs.input.bundle_part.Needs as need
 
 pub returns-then-end-input : need.returns-then-end-input

@@ -15,8 +15,8 @@ use Rattle.std.specs.declared.option.Option.the-variants.{Some, None}
 use Rattle.event.specs.declared.span.Span.{Span}
 use Rattle.event.specs.Numerals.{isDigit, onward, readFrom}
 use Rattle.event.specs.Spans.{span}
-use Rattle.listing.specs.declared.query.Query.{Query}
-use Rattle.listing.specs.Queries.{before, digitsTo, queryOf, queryIn, AllDigits, valueFrom, Digits, Asks}
+use Rattle.query.specs.declared.line.Query.{Query}
+use Rattle.query.specs.Queries.{before, digitsTo, queryOf, queryIn, AllDigits, valueFrom, Digits, Asks}
 
 -- the greatest number that so many digits write behind another
 abbrev greatest : ℕ → ℕ → ℕ

@@ -12,8 +12,8 @@ use Rattle.std.proofs.shelf.Ways.{tells}
 use Rattle.std.specs.declared.option.Option.{Option}
 use Rattle.std.specs.declared.option.Option.the-variants.{Some, None}
 use Rattle.event.specs.Spans.{span}
-use Rattle.listing.specs.declared.query.Query.{Query}
-use Rattle.listing.specs.Queries.{before, digitsTo, queryOf, queryIn}
+use Rattle.query.specs.declared.line.Query.{Query}
+use Rattle.query.specs.Queries.{before, digitsTo, queryOf, queryIn}
 
 here : (value b : ℕ) (bs : List ℕ) → b ≡ value → before value (b ∷ bs) ≡ 0
 here value b bs e = grind (arith, tells)

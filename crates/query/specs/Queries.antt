@@ -12,9 +12,9 @@ use Rattle.std.specs.declared.result.Result.the-variants.{Ok, Err}
 use Rattle.event.specs.declared.span.Span.{Span}
 use Rattle.event.specs.Numerals.{isDigit, onward, readFrom}
 use Rattle.event.specs.Spans.{span}
-use Rattle.listing.specs.declared.query.Query.{Query}
-use Rattle.listing.specs.declared.query.QueryFault.{QueryFault}
-use Rattle.listing.specs.declared.query.QueryFault.the-variants.{Line}
+use Rattle.query.specs.declared.line.Query.{Query}
+use Rattle.query.specs.declared.line.QueryFault.{QueryFault}
+use Rattle.query.specs.declared.line.QueryFault.the-variants.{Line}
 
 -- how many bytes stand before the first of a value, or all where there is none
 abbrev pub before : ℕ → List ℕ → ℕ

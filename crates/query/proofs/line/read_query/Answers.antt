@@ -6,9 +6,9 @@ use Rattle.std.proofs.shelf.Lists.{take-rest}
 use Rattle.std.specs.declared.option.Option.{Option}
 use Rattle.std.specs.declared.option.Option.the-variants.{Some, None}
 use Rattle.event.specs.Spans.{span}
-use Rattle.listing.specs.Queries.{digitsTo, queryOf, queryIn, orLine}
-use Rattle.listing.proofs.Cutting.{one-space, read-as}
-use Rattle.listing.proofs.query.read_query.Needs as need
+use Rattle.query.specs.Queries.{digitsTo, queryOf, queryIn, orLine}
+use Rattle.query.proofs.Cutting.{one-space, read-as}
+use Rattle.query.proofs.line.read_query.Needs as need
 
 -- what stands behind the first space
 abbrev behind : List ℕ → ℕ → List ℕ

@@ -1,7 +1,7 @@
 ghost use mathlib.Core.Path.{_≡_};
 ghost use Prim.Native.Nat.{ℕ, _<_, _≤_};
 ghost use lib.ListN.{length};
-ghost use Rattle.listing.specs.Queries.{before, digitsTo, queryIn, orLine, QueryStands};
+ghost use Rattle.query.specs.Queries.{before, digitsTo, queryIn, orLine, QueryStands};
 use event::decimal::read_digits;
 use event::span::Span;
 

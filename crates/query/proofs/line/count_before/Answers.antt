@@ -1,6 +1,6 @@
 use native.Mathlib.Omega.{arith}
-use Rattle.listing.proofs.Cutting.{before-here, before-more, before-all}
-use Rattle.listing.proofs.query.count_before.Needs as need
+use Rattle.query.proofs.Cutting.{before-here, before-more, before-all}
+use Rattle.query.proofs.line.count_before.Needs as need
 
 pub loop-i-holds : need.loop-i-holds
 loop-i-holds c = omega arith
