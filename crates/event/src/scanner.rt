@@ -84,13 +84,6 @@ pub impl Kind for Scanner as ScannerKind {
     }
 }
 
-/// The kind's number and width.
-pub fn scanner_shape() -> (u16, usize)
-    ensures { λ r. ⌜ r ≡ (1, 2) ⌝ }
-{
-    (ScannerKind::NUMBER, ScannerKind::WIDTH)
-}
-
 /// A text stands for a scanner event only if it is that event's label.
 pub fn scanner_labels_are_exact() -> u8
     ensures { λ _. ⌜ Exact labelOf labelledBy ⌝ }

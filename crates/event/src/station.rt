@@ -144,13 +144,6 @@ pub impl Kind for Station as StationKind {
     }
 }
 
-/// The kind's number and width.
-pub fn station_shape() -> (u16, usize)
-    ensures { λ r. ⌜ r ≡ (2, 4) ⌝ }
-{
-    (StationKind::NUMBER, StationKind::WIDTH)
-}
-
 /// A text stands for a station event only if it is that event's label.
 pub fn station_labels_are_exact() -> u8
     ensures { λ _. ⌜ Exact labelOf labelledBy ⌝ }

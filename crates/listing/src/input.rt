@@ -12,14 +12,14 @@ use query::line::read_query;
 pub const MOST_INPUT: usize = 32_768;
 
 /// The query line: what stands before the first line feed, or all.
-pub fn query_line(input: &[u8]) -> &[u8]
+pub(crate) fn query_line(input: &[u8]) -> &[u8]
     ensures { λ r. ⌜ now r ≡ queryLine (now (input .entry)) ⌝ }
 {
     &input[0..count_before(b'\n', input)]
 }
 
 /// The bundle: what stands behind that line feed.
-pub fn bundle_part(input: &[u8]) -> &[u8]
+pub(crate) fn bundle_part(input: &[u8]) -> &[u8]
     ensures { λ r. ⌜ now r ≡ bundlePart (now (input .entry)) ⌝ }
 {
     let end = count_before(b'\n', input);
@@ -30,7 +30,7 @@ pub fn bundle_part(input: &[u8]) -> &[u8]
 }
 
 /// The query of an input that is not too long.
-pub fn read_request(input: &[u8]) -> Result<Query, QueryFault>
+pub(crate) fn read_request(input: &[u8]) -> Result<Query, QueryFault>
     ensures { λ r. ⌜ r ≡ requested (now (input .entry)) ⌝ }
 {
     if input.len() > MOST_INPUT {
@@ -44,13 +44,13 @@ pub fn read_request(input: &[u8]) -> Result<Query, QueryFault>
 
 /// A kind that the lister knows.
 #[derive(Clone, Copy)]
-pub enum FileKind {
+pub(crate) enum FileKind {
     Scanner,
     Station,
 }
 
 /// The kind that a bundle file names.
-pub fn file_kind(file: &[u8]) -> Result<FileKind, BundleFault>
+pub(crate) fn file_kind(file: &[u8]) -> Result<FileKind, BundleFault>
     ensures { λ r. ⌜ r ≡ kindFor (now (file .entry)) ⌝ }
 {
     let [high, low, _, _, _, _, _, _, ..] = file else {

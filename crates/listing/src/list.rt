@@ -150,8 +150,8 @@ fn read_front(input: &[u8]) -> Result<(Query, FileKind), ListerFault>
     Ok((query, kind))
 }
 
-/// Appends the list that an input asks for.
-pub fn append_list(heap: Global, input: &[u8], text: &mut Vec<u8>) -> Result<(), ListError>
+// Appends the list that an input asks for.
+fn append_list(heap: Global, input: &[u8], text: &mut Vec<u8>) -> Result<(), ListError>
     ensures { λ r. ⌜ Outcome (faultIn (now (input .entry))) (vec-items (now (text .entry))) (listText (requested (now (input .entry))) (kindFor (bundlePart (now (input .entry)))) (bundlePart (now (input .entry)))) (vec-items (now (text .exit))) r ⌝ }
 {
     let (query, kind) = read_front(input)?;

@@ -16,6 +16,7 @@ use query::line::Query;
 use std::alloc::AllocError;
 
 /// A line that the lister writes.
+#[derive(Clone, Copy)]
 pub enum Line<'a, K> {
     /// What was read.
     Head {
@@ -69,7 +70,7 @@ fn grow(row: &mut Vec<u8>) -> Result<(), AllocError>
 }
 
 /// Appends a line to a text. The row is where it is written first, and grows to the longest line.
-pub fn append<K: Kind>(
+pub(crate) fn append<K: Kind>(
     line: &Line<'_, K>,
     row: &mut Vec<u8>,
     text: &mut Vec<u8>,
