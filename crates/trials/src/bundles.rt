@@ -18,7 +18,10 @@ const BLANK: Scanner = Scanner { code: 7 };
 fn the_worked_bundle_reads() -> Result<(), Fail> {
     let mut offsets = [77u32; 8];
     let mut events = [BLANK; 13];
-    check_eq(read_bundle(worked_bundle(), &mut offsets, &mut events), Ok((5, 12)))?;
+    check_eq(
+        read_bundle(worked_bundle(), &mut offsets, &mut events),
+        Ok((5, 12)),
+    )?;
     check_eq(offsets, [0, 4, 7, 9, 9, 12, 77, 77])?;
     check_eq(events[0], Scanner { code: 10 })?;
     check_eq(events[11], Scanner { code: 20 })?;
@@ -29,12 +32,18 @@ fn the_worked_bundle_reads() -> Result<(), Fail> {
 fn rows_that_are_too_short() -> Result<(), Fail> {
     let mut offsets = [77u32; 5];
     let mut events = [BLANK; 12];
-    check_eq(read_bundle(worked_bundle(), &mut offsets, &mut events), Err(BundleFault::Room))?;
+    check_eq(
+        read_bundle(worked_bundle(), &mut offsets, &mut events),
+        Err(BundleFault::Room),
+    )?;
     check_eq(offsets, [77; 5])?;
     check_eq(events[0], BLANK)?;
     let mut longer = [77u32; 6];
     let mut fewer = [BLANK; 11];
-    check_eq(read_bundle(worked_bundle(), &mut longer, &mut fewer), Err(BundleFault::Room))
+    check_eq(
+        read_bundle(worked_bundle(), &mut longer, &mut fewer),
+        Err(BundleFault::Room),
+    )
 }
 
 // Reads the worked bundle with one byte changed.
@@ -60,22 +69,46 @@ fn faults_in_order() -> Result<(), Fail> {
         start: 8,
         length: 4,
     };
-    check_eq(read_with(11, 1), Err(BundleFault::Offsets { index: 0, span: first }))?;
+    check_eq(
+        read_with(11, 1),
+        Err(BundleFault::Offsets {
+            index: 0,
+            span: first,
+        }),
+    )?;
     let third = Span {
         start: 16,
         length: 4,
     };
-    check_eq(read_with(15, 8), Err(BundleFault::Offsets { index: 2, span: third }))?;
+    check_eq(
+        read_with(15, 8),
+        Err(BundleFault::Offsets {
+            index: 2,
+            span: third,
+        }),
+    )?;
     let last = Span {
         start: 28,
         length: 4,
     };
-    check_eq(read_with(31, 11), Err(BundleFault::Offsets { index: 5, span: last }))?;
+    check_eq(
+        read_with(31, 11),
+        Err(BundleFault::Offsets {
+            index: 5,
+            span: last,
+        }),
+    )?;
     let second = Span {
         start: 34,
         length: 2,
     };
-    check_eq(read_with(34, 16), Err(BundleFault::Event { index: 1, span: second }))
+    check_eq(
+        read_with(34, 16),
+        Err(BundleFault::Event {
+            index: 1,
+            span: second,
+        }),
+    )
 }
 
 #[test]
@@ -83,12 +116,21 @@ fn short_and_over(rt: LibcRuntime) -> Result<(), Fail> {
     let mut offsets = [77u32; 8];
     let mut events = [BLANK; 13];
     let file = worked_bundle();
-    check_eq(read_bundle(&file[0..55], &mut offsets, &mut events), Err(BundleFault::Short))?;
-    check_eq(read_bundle(&file[0..7], &mut offsets, &mut events), Err(BundleFault::Short))?;
+    check_eq(
+        read_bundle(&file[0..55], &mut offsets, &mut events),
+        Err(BundleFault::Short),
+    )?;
+    check_eq(
+        read_bundle(&file[0..7], &mut offsets, &mut events),
+        Err(BundleFault::Short),
+    )?;
     check_eq(offsets, [77; 8])?;
     let mut longer = file.to_vec(rt.alloc())?;
     longer.push(0)?;
-    check_eq(read_bundle(&longer, &mut offsets, &mut events), Err(BundleFault::Over))
+    check_eq(
+        read_bundle(&longer, &mut offsets, &mut events),
+        Err(BundleFault::Over),
+    )
 }
 
 #[test]

@@ -4,7 +4,13 @@ use std::alloc::Global;
 use std::test::*;
 
 // Holds the reply to a query line and a bundle to a text.
-fn answers(heap: Global, line: &[u8], bundle: &[u8], text: &[u8], refused: bool) -> Result<(), Fail> {
+fn answers(
+    heap: Global,
+    line: &[u8],
+    bundle: &[u8],
+    text: &[u8],
+    refused: bool,
+) -> Result<(), Fail> {
     let mut input = Vec::new(heap);
     input.extend_from_slice(line)?;
     input.extend_from_slice(bundle)?;
@@ -15,13 +21,15 @@ fn answers(heap: Global, line: &[u8], bundle: &[u8], text: &[u8], refused: bool)
 
 #[test]
 fn the_worked_bundle_is_listed(rt: LibcRuntime) -> Result<(), Fail> {
-    let text = b"tapes 5 events 12 threshold 2 length 3\n10 20 10 30\n10 30 40\n20 10\n\n30 10 20\n";
+    let text =
+        b"tapes 5 events 12 threshold 2 length 3\n10 20 10 30\n10 30 40\n20 10\n\n30 10 20\n";
     answers(rt.alloc(), b"2 3 .+\n", worked_bundle(), text, false)
 }
 
 #[test]
 fn stations_are_listed(rt: LibcRuntime) -> Result<(), Fail> {
-    let bundle = b"\x00\x02\x00\x01\x00\x00\x00\x02\x00\x00\x00\x00\x00\x00\x00\x02\x0C\x00\x00\x07\x0C\x02\x00\x09";
+    let bundle =
+        b"\x00\x02\x00\x01\x00\x00\x00\x02\x00\x00\x00\x00\x00\x00\x00\x02\x0C\x00\x00\x07\x0C\x02\x00\x09";
     let text = b"tapes 1 events 2 threshold 1 length 16\n12:d 12:t\n";
     answers(rt.alloc(), b"001 16 \n", bundle, text, false)
 }
@@ -46,10 +54,22 @@ fn bundles_are_refused(rt: LibcRuntime) -> Result<(), Fail> {
     answers(heap, b"2 3 .\n", &k[0..55], b"refused 9 bundle 0 -\n", true)?;
     let mut other = *k;
     other[1] = 3;
-    answers(heap, b"2 3 .\n", &other, b"refused 11 bundle 0 0003\n", true)?;
+    answers(
+        heap,
+        b"2 3 .\n",
+        &other,
+        b"refused 11 bundle 0 0003\n",
+        true,
+    )?;
     let mut late = *k;
     late[11] = 0xAB;
-    answers(heap, b"2 3 .\n", &late, b"refused 6 bundle 8 000000AB\n", true)?;
+    answers(
+        heap,
+        b"2 3 .\n",
+        &late,
+        b"refused 6 bundle 8 000000AB\n",
+        true,
+    )?;
     let mut odd = *k;
     odd[34] = 0xFF;
     answers(heap, b"2 3 .\n", &odd, b"refused 12 bundle 34 FF14\n", true)?;
