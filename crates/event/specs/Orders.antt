@@ -27,6 +27,18 @@ flipped Before = After
 flipped Alike = Alike
 flipped After = Before
 
+-- whether the first event is before the second
+abbrev pub isBefore : Order → Bool
+isBefore Before = true
+isBefore Alike = false
+isBefore After = false
+
+-- whether the two events are alike
+abbrev pub isAlike : Order → Bool
+isAlike Before = false
+isAlike Alike = true
+isAlike After = false
+
 -- whether the first event is not after the second
 abbrev pub notAfter : Order → Bool
 notAfter Before = true
