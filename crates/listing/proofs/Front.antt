@@ -13,7 +13,7 @@ use Rattle.query.specs.declared.line.QueryFault.{QueryFault}
 use Rattle.listing.specs.declared.fault.ListerFault.{ListerFault}
 use Rattle.listing.specs.declared.input.FileKind.{FileKind}
 use Rattle.listing.specs.declared.list.ListError.{ListError}
-use Rattle.listing.specs.Outcomes.{frontOf, bundleOnly, Outcome}
+use Rattle.listing.specs.Outcomes.{frontOf, Outcome}
 use Rattle.listing.specs.Replies.{requested, kindFor, kindFault, eitherFault, bundlePart, faultIn, listText}
 
 -- a fault of either is the input's
@@ -30,16 +30,12 @@ front-ok (Ok p) (Ok k) q x h =
     let s : _≡_ {A = Query × FileKind} (p, k) (q, x) = cc in
     (ap (λ (y : Query × FileKind). Ok (y .0)) s, ap (λ (y : Query × FileKind). Ok (y .1)) s)
 
-rest-fault : (q : Query) (b : Option BundleFault) → bundleOnly b ≡ eitherFault (Ok q) b
-rest-fault q None = refl
-rest-fault q (Some f) = refl
-
 -- then what comes of the bundle comes of the input
-pub front-outcome : (input : List ℕ) (q : Query) (k : FileKind) (was is : List ℕ) (r : Result (Unit {0}) ListError) → requested input ≡ Ok q → kindFor (bundlePart input) ≡ Ok k → Outcome (bundleOnly (kindFault (Ok k) (bundlePart input))) was (listText (Ok q) (Ok k) (bundlePart input)) is r → Outcome (faultIn input) was (listText (requested input) (kindFor (bundlePart input)) (bundlePart input)) is r
+pub front-outcome : (input : List ℕ) (q : Query) (k : FileKind) (was is : List ℕ) (r : Result (Unit {0}) ListError) → requested input ≡ Ok q → kindFor (bundlePart input) ≡ Ok k → Outcome (kindFault (Ok k) (bundlePart input)) was (listText (Ok q) (Ok k) (bundlePart input)) is r → Outcome (faultIn input) was (listText (requested input) (kindFor (bundlePart input)) (bundlePart input)) is r
 front-outcome input q k was is r eq ek o =
     let file = bundlePart input in
-    let fault : bundleOnly (kindFault (Ok k) file) ≡ faultIn input =
-    rest-fault q (kindFault (Ok k) file) ∙ ap (λ (x : Result FileKind BundleFault). eitherFault (Ok q) (kindFault x file)) (sym ek) ∙ ap (λ (x : Result Query QueryFault). eitherFault x (kindFault (kindFor file) file)) (sym eq) in
+    let fault : kindFault (Ok k) file ≡ faultIn input =
+    ap (λ (x : Result FileKind BundleFault). eitherFault (Ok q) (kindFault x file)) (sym ek) ∙ ap (λ (x : Result Query QueryFault). eitherFault x (kindFault (kindFor file) file)) (sym eq) in
     let list : listText (Ok q) (Ok k) file ≡ listText (requested input) (kindFor file) file =
     ap (λ (x : Result FileKind BundleFault). listText (Ok q) x file) (sym ek) ∙ ap (λ (x : Result Query QueryFault). listText x (kindFor file) file) (sym eq) in
     subst (λ (l : List ℕ). Outcome (faultIn input) was l is r) list (subst (λ (f : Option ListerFault). Outcome f was (listText (Ok q) (Ok k) file) is r) fault o)

@@ -12,7 +12,7 @@ use Rattle.bundle.specs.Faults as bundle
 use Rattle.query.specs.declared.line.QueryFault.{QueryFault}
 use Rattle.query.specs.declared.line.QueryFault.the-variants.{Input, Line}
 use Rattle.listing.specs.declared.fault.ListerFault.{ListerFault}
-use Rattle.listing.specs.declared.fault.ListerFault.the-variants.{Query, Bundle}
+use Rattle.listing.specs.declared.fault.ListerFault.the-variants.{Query, Bundle, Learning}
 use Rattle.listing.specs.declared.fault.Source.{Source}
 use Rattle.listing.specs.declared.fault.Source.the-variants as source
 
@@ -25,16 +25,37 @@ queryRefusal Line = refusal.Query
 abbrev pub refusalOf : ListerFault → Refusal
 refusalOf (Query f) = queryRefusal f
 refusalOf (Bundle f) = bundle.refusalOf f
+refusalOf (Learning r) = r
+
+-- the input that a refusal speaks of
+abbrev pub refusedSource : Refusal → Source
+refusedSource refusal.Closed = source.Bundle
+refusedSource refusal.Nothing = source.Bundle
+refusedSource refusal.Threshold = source.Query
+refusedSource refusal.Length = source.Query
+refusedSource refusal.Size = source.Bundle
+refusedSource refusal.Offsets = source.Bundle
+refusedSource refusal.Lexicon = source.Bundle
+refusedSource refusal.Room = source.Bundle
+refusedSource refusal.Short = source.Bundle
+refusedSource refusal.Over = source.Bundle
+refusedSource refusal.Kind = source.Bundle
+refusedSource refusal.Event = source.Bundle
+refusedSource refusal.Mark = source.Query
+refusedSource refusal.Query = source.Query
+refusedSource refusal.Input = source.Query
 
 -- which input is at fault
 abbrev pub sourceOf : ListerFault → Source
 sourceOf (Query f) = source.Query
 sourceOf (Bundle f) = source.Bundle
+sourceOf (Learning r) = refusedSource r
 
 -- where there, if at some bytes
 abbrev pub spanOf : ListerFault → Option Span
 spanOf (Query f) = None
 spanOf (Bundle f) = bundle.spanOf f
+spanOf (Learning r) = None
 
 -- the place that is written: of the bytes at fault, or 0
 abbrev pub placeOf : ListerFault → Span

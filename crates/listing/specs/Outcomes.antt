@@ -6,6 +6,7 @@ use Rattle.std.specs.declared.option.Option.{Option}
 use Rattle.std.specs.declared.option.Option.the-variants.{Some, None}
 use Rattle.std.specs.declared.result.Result.{Result}
 use Rattle.std.specs.declared.result.Result.the-variants.{Ok, Err}
+use Rattle.event.specs.declared.refusal.Refusal.{Refusal}
 use Rattle.bundle.specs.declared.fault.BundleFault.{BundleFault}
 use Rattle.listing.specs.declared.fault.ListerFault.{ListerFault}
 use Rattle.listing.specs.declared.fault.ListerFault.the-variants as fault
@@ -26,10 +27,10 @@ frontOf (Err f) k = Err (fault.Query f)
 frontOf (Ok q) (Err f) = Err (fault.Bundle f)
 frontOf (Ok q) (Ok k) = Ok (q, k)
 
--- the bundle's fault within the lister's, if there is one
-abbrev pub bundleOnly : Option BundleFault → Option ListerFault
-bundleOnly None = None
-bundleOnly (Some f) = Some (fault.Bundle f)
+-- an answer, or the refusal of learning within the lister's fault
+abbrev pub orLearning : {X : Type 0} → Option Refusal → X → Result X ListerFault
+orLearning None x = Ok x
+orLearning (Some r) x = Err (fault.Learning r)
 
 -- what holds of a fault, the text before, the list that is asked for and the text after, by the answer:
 -- the list was appended and there is no fault, or the text is as it was and the fault is returned, or memory was short

@@ -21,9 +21,9 @@ abbrev pub headText : (tapes events threshold longest : ℕ) → List ℕ
 headText tapes events threshold longest =
     glued (codes "tapes " ∷ decimal tapes ∷ codes " events " ∷ decimal events ∷ codes " threshold " ∷ decimal threshold ∷ codes " length " ∷ decimal longest ∷ codes "\n" ∷ [])
 
--- a tape's labels, parted by spaces
-abbrev pub tapeText : {K : Type 0} → (K → List ℕ) → List K → List ℕ
-tapeText label events = glued (parted label events ∷ codes "\n" ∷ [])
+-- a pattern: its support, and its labels parted by spaces
+abbrev pub patternText : {K : Type 0} → (K → List ℕ) → (support : ℕ) → List K → List ℕ
+patternText label support pattern = glued (decimal support ∷ codes " " ∷ parted label pattern ∷ codes "\n" ∷ [])
 
 -- the word for the input at fault
 abbrev pub sourceText : Source → List ℕ

@@ -1,5 +1,5 @@
 ghost use mathlib.Core.Path.{_≡_};
-ghost use Rattle.listing.specs.Faults.{refusalOf, sourceOf, spanOf, bytesAtFault};
+ghost use Rattle.listing.specs.Faults.{refusalOf, refusedSource, sourceOf, spanOf, bytesAtFault};
 ghost use Rattle.listing.specs.declared.fault.ListerFault.the-variants as lister;
 use bundle::fault::BundleFault;
 use event::refusal::Refusal;
@@ -12,6 +12,8 @@ use query::line::QueryFault;
 pub enum ListerFault {
     Query(QueryFault),
     Bundle(BundleFault),
+    /// A refusal of learning the lexicon.
+    Learning(Refusal),
 }
 
 /// The part of the input that a fault speaks of.
@@ -37,6 +39,25 @@ pub impl From<BundleFault> for ListerFault as ListerFromBundle {
     }
 }
 
+pub impl From<Refusal> for ListerFault as ListerFromLearning {
+    ghost converts = { λ e r. r ≡ lister.Learning e };
+
+    fn from(refusal: Refusal) -> ListerFault {
+        ListerFault::Learning(refusal)
+    }
+}
+
+// The input that a refusal speaks of.
+fn refused_source(refusal: Refusal) -> Source
+    ensures { λ r. ⌜ r ≡ refusedSource refusal ⌝ }
+{
+    match refusal {
+        Refusal::Threshold | Refusal::Length | Refusal::Mark | Refusal::Query | Refusal::Input =>
+            Source::Query,
+        _ => Source::Bundle,
+    }
+}
+
 impl ListerFault {
     /// The refusal that this fault is.
     pub fn refusal(&self) -> Refusal
@@ -46,6 +67,7 @@ impl ListerFault {
             ListerFault::Query(QueryFault::Input) => Refusal::Input,
             ListerFault::Query(QueryFault::Line) => Refusal::Query,
             ListerFault::Bundle(fault) => fault.refusal(),
+            ListerFault::Learning(refusal) => *refusal,
         }
     }
 
@@ -56,6 +78,7 @@ impl ListerFault {
         match self {
             ListerFault::Query(_) => Source::Query,
             ListerFault::Bundle(_) => Source::Bundle,
+            ListerFault::Learning(refusal) => refused_source(*refusal),
         }
     }
 
@@ -66,6 +89,7 @@ impl ListerFault {
         match self {
             ListerFault::Query(_) => None,
             ListerFault::Bundle(fault) => fault.span(),
+            ListerFault::Learning(_) => None,
         }
     }
 }

@@ -5,12 +5,17 @@ ghost use lib.ListN.{length};
 ghost use Rattle.std.specs.Of.Vec.{vec-items};
 ghost use Rattle.std.specs.Options.{isSome};
 ghost use Rattle.std.specs.Vec.{made};
+ghost use Rattle.std.specs.declared.option.Option.the-variants.{None};
 ghost use Rattle.bundle.specs.Bundles.{tapesIn, eventsIn, offsetsIn, eventsOf, fileFault, readFault, filled};
 ghost use Rattle.listing.specs.declared.list.ListError.the-variants as listing;
-ghost use Rattle.listing.specs.Outcomes.{orRefused, bundleOnly, frontOf, Outcome};
-ghost use Rattle.listing.specs.Replies.{faultIn, tapesText, listText, kindFor, bundlePart, requested, replyText};
+ghost use Rattle.matching.specs.Learning as learning;
+ghost use Rattle.matching.specs.Learning.{learned, learnRefusal};
+ghost use Rattle.matching.specs.Rows.{bundleRefusal};
+ghost use Rattle.listing.specs.Outcomes.{orRefused, orLearning, frontOf, Outcome};
+ghost use Rattle.listing.specs.Replies.{faultIn, readingFault, supportsText, kindText, listText, kindFor, bundlePart, requested, replyText};
 use crate::fault::ListerFault;
 use crate::fault::ListerFromBundle;
+use crate::fault::ListerFromLearning;
 use crate::fault::ListerFromQuery;
 use crate::input::FileKind;
 use crate::input::bundle_part;
@@ -22,12 +27,14 @@ use crate::output::append;
 use bundle::reader::MOST_EVENTS;
 use bundle::reader::MOST_TAPES;
 use bundle::reader::read_bundle;
-use bundle::tape::tape_at;
 use event::kind::Kind;
 use event::scanner::Scanner;
 use event::scanner::ScannerKind;
 use event::station::Station;
 use event::station::StationKind;
+use matching::learning::learn;
+use matching::lexicon::MOST_LEXICON;
+use matching::support::support_of;
 use query::line::Query;
 use std::alloc::AllocError;
 use std::alloc::Global;
@@ -55,25 +62,30 @@ pub impl From<AllocError> for ListError as ListFromAlloc {
     }
 }
 
-// Appends what was read, and each tape.
-fn append_tapes<K: Kind>(
+// Appends what was read, and each event of a lexicon with its support.
+fn append_supports<K: Kind>(
     query: &Query,
     offsets: &[u32],
     events: &[K],
+    lexicon: &[K],
     row: &mut Vec<u8>,
     text: &mut Vec<u8>,
 ) -> Result<(), AllocError>
-    ensures { λ r. ⌜ made r (λ _. vec-items (now (text .exit)) ≡ vec-items (now (text .entry)) ++ tapesText (K·Kind .label) (now (query .entry)) (now (offsets .entry)) (now (events .entry))) ⌝ }
+    requires { ⌜ bundleRefusal (length (now events)) (now offsets) ≡ None ⌝ }
+    ensures { λ r. ⌜ made r (λ _. vec-items (now (text .exit)) ≡ vec-items (now (text .entry)) ++ supportsText (K·Kind .order) (K·Kind .label) (now (query .entry)) (now (offsets .entry)) (now (events .entry)) (now (lexicon .entry))) ⌝ }
 {
-    let tapes = offsets.len().saturating_sub(1);
     let head: Line<'_, K> = Line::Head {
-        tapes,
+        tapes: offsets.len().saturating_sub(1),
         events: events.len(),
         query,
     };
     append(&head, row, text)?;
-    for number in 0..tapes {
-        append(&Line::Tape(tape_at(events, offsets, number)), row, text)?;
+    for place in 0..lexicon.len() {
+        let pattern = &lexicon[place..place + 1];
+        let Ok(support) = support_of(events, offsets, pattern) else {
+            continue;
+        };
+        append(&Line::Pattern { support, pattern }, row, text)?;
     }
     Ok(())
 }
@@ -92,25 +104,38 @@ fn read_tapes<K: Kind>(
     Ok(counts)
 }
 
-// Appends the list of a query and a bundle file of a kind, read into rows that have room for every bundle.
+// Learns the lexicon into a row; a refusal becomes the lister's fault.
+fn learn_lexicon<K: Kind>(events: &[K], lexicon: &mut [K]) -> Result<usize, ListerFault>
+    ensures answer { λ r. ⌜ r ≡ orLearning (learnRefusal (K·Kind .order) (now (events .entry)) (length (now (lexicon .entry)))) (length (learned (K·Kind .order) (now (events .entry)))) ⌝ }
+    ensures after { λ _. ⌜ now (lexicon .exit) ≡ learning.filled (learnRefusal (K·Kind .order) (now (events .entry)) (length (now (lexicon .entry)))) (learned (K·Kind .order) (now (events .entry))) (now (lexicon .entry)) ⌝ }
+{
+    let count = learn(events, lexicon)?;
+    Ok(count)
+}
+
+// Appends the list of a query and a bundle file of a kind, read into rows that have room for every bundle and lexicon.
 fn append_read<K: Kind>(
     heap: Global,
     query: &Query,
     file: &[u8],
     offsets: &mut [u32],
     events: &mut [K],
+    lexicon: &mut [K],
     text: &mut Vec<u8>,
 ) -> Result<(), ListError>
     requires offset_room { ⌜ 513 ≤ length (now offsets) ⌝ }
     requires event_room { ⌜ 65535 ≤ length (now events) ⌝ }
-    ensures { λ r. ⌜ Outcome (bundleOnly (fileFault (K·Kind .number) (K·Kind .width) (K·Kind .stands) (now (file .entry)))) (vec-items (now (text .entry))) (tapesText (K·Kind .label) (now (query .entry)) (offsetsIn (now (file .entry))) (eventsOf (K·Kind .width) (K·Kind .stands) (now (file .entry)))) (vec-items (now (text .exit))) r ⌝ }
+    requires lexicon_room { ⌜ 1024 ≤ length (now lexicon) ⌝ }
+    ensures { λ r. ⌜ Outcome (readingFault (K·Kind .number) (K·Kind .width) (K·Kind .stands) (K·Kind .order) (now (file .entry))) (vec-items (now (text .entry))) (kindText (K·Kind .width) (K·Kind .stands) (K·Kind .order) (K·Kind .label) (now (query .entry)) (now (file .entry))) (vec-items (now (text .exit))) r ⌝ }
 {
     let (tape_count, event_count) = read_tapes(file, offsets, events)?;
+    let word_count = learn_lexicon(&events[0..event_count], lexicon)?;
     let mut row = Vec::new(heap);
-    append_tapes(
+    append_supports(
         query,
         &offsets[0..tape_count + 1],
         &events[0..event_count],
+        &lexicon[0..word_count],
         &mut row,
         text,
     )?;
@@ -125,18 +150,21 @@ fn append_file<K: Kind>(
     blank: K,
     text: &mut Vec<u8>,
 ) -> Result<(), ListError>
-    ensures { λ r. ⌜ Outcome (bundleOnly (fileFault (K·Kind .number) (K·Kind .width) (K·Kind .stands) (now (file .entry)))) (vec-items (now (text .entry))) (tapesText (K·Kind .label) (now (query .entry)) (offsetsIn (now (file .entry))) (eventsOf (K·Kind .width) (K·Kind .stands) (now (file .entry)))) (vec-items (now (text .exit))) r ⌝ }
+    ensures { λ r. ⌜ Outcome (readingFault (K·Kind .number) (K·Kind .width) (K·Kind .stands) (K·Kind .order) (now (file .entry))) (vec-items (now (text .entry))) (kindText (K·Kind .width) (K·Kind .stands) (K·Kind .order) (K·Kind .label) (now (query .entry)) (now (file .entry))) (vec-items (now (text .exit))) r ⌝ }
 {
     let mut offsets = Vec::new(heap);
     offsets.resize(MOST_TAPES + 1, 0u32)?;
     let mut events = Vec::new(heap);
     events.resize(MOST_EVENTS, blank)?;
+    let mut lexicon = Vec::new(heap);
+    lexicon.resize(MOST_LEXICON, blank)?;
     append_read(
         heap,
         query,
         file,
         offsets.as_mut_slice(),
         events.as_mut_slice(),
+        lexicon.as_mut_slice(),
         text,
     )
 }

@@ -8,8 +8,8 @@ ghost use Rattle.event.specs.Rows.{written, laid};
 ghost use Rattle.listing.specs.Lines.{textOf};
 use crate::fault::ListerFault;
 use crate::text::write_head;
+use crate::text::write_pattern;
 use crate::text::write_refused;
-use crate::text::write_tape;
 use event::kind::Kind;
 use event::refusal::Refusal;
 use query::line::Query;
@@ -24,8 +24,11 @@ pub enum Line<'a, K> {
         events: usize,
         query: &'a Query,
     },
-    /// A tape's labels.
-    Tape(&'a [K]),
+    /// A pattern and its support.
+    Pattern {
+        support: u32,
+        pattern: &'a [K],
+    },
     /// A refusal, with the query line and the bundle.
     Refused {
         fault: &'a ListerFault,
@@ -46,7 +49,7 @@ impl<'a, K: Kind> Line<'a, K> {
                 events,
                 query,
             } => write_head(*tapes, *events, *query, row),
-            Line::Tape(tape) => write_tape(*tape, row),
+            Line::Pattern { support, pattern } => write_pattern(*support, *pattern, row),
             Line::Refused {
                 fault,
                 query,

@@ -2,7 +2,7 @@ ghost use mathlib.Core.Path.{_≡_};
 ghost use lib.ListN.{length};
 ghost use Rattle.event.specs.Rows.{written, laid};
 ghost use Rattle.line.specs.Pieces.{wordText};
-ghost use Rattle.listing.specs.Texts.{headText, tapeText, sourceText, shown, refusedText};
+ghost use Rattle.listing.specs.Texts.{headText, patternText, sourceText, shown, refusedText};
 use crate::fault::ListerFault;
 use crate::fault::Source;
 use crate::fault::bytes_at_fault;
@@ -41,13 +41,18 @@ pub fn write_head(
     write_line::<ScannerKind>(&pieces, &[], &[], row)
 }
 
-/// The line of a tape: its labels, parted by spaces.
-pub fn write_tape<K: Kind>(tape: &[K], row: &mut [u8]) -> Result<usize, Refusal>
-    ensures answer { λ r. ⌜ r ≡ written (length (tapeText (K·Kind .label) (now (tape .entry)))) (length (now (row .entry))) ⌝ }
-    ensures after { λ _. ⌜ now (row .exit) ≡ laid (tapeText (K·Kind .label) (now (tape .entry))) (now (row .entry)) ⌝ }
+/// The line of a pattern: its support, and its labels parted by spaces.
+pub fn write_pattern<K: Kind>(support: u32, pattern: &[K], row: &mut [u8]) -> Result<usize, Refusal>
+    ensures answer { λ r. ⌜ r ≡ written (length (patternText (K·Kind .label) support (now (pattern .entry)))) (length (now (row .entry))) ⌝ }
+    ensures after { λ _. ⌜ now (row .exit) ≡ laid (patternText (K·Kind .label) support (now (pattern .entry))) (now (row .entry)) ⌝ }
 {
-    let pieces = [Piece::Labels, Piece::Word(Word::LineFeed)];
-    write_line(&pieces, &[], tape, row)
+    let pieces = [
+        Piece::Number(support.into()),
+        Piece::Word(Word::Space),
+        Piece::Labels,
+        Piece::Word(Word::LineFeed),
+    ];
+    write_line(&pieces, &[], pattern, row)
 }
 
 // The word for the input at fault.

@@ -21,8 +21,7 @@ fn answers(
 
 #[test]
 fn the_worked_bundle_is_listed(rt: LibcRuntime) -> Result<(), Fail> {
-    let text =
-        b"tapes 5 events 12 threshold 2 length 3\n10 20 10 30\n10 30 40\n20 10\n\n30 10 20\n";
+    let text = b"tapes 5 events 12 threshold 2 length 3\n4 10\n3 20\n3 30\n1 40\n";
     answers(rt.alloc(), b"2 3 .+\n", worked_bundle(), text, false)
 }
 
@@ -30,7 +29,7 @@ fn the_worked_bundle_is_listed(rt: LibcRuntime) -> Result<(), Fail> {
 fn stations_are_listed(rt: LibcRuntime) -> Result<(), Fail> {
     let bundle =
         b"\x00\x02\x00\x01\x00\x00\x00\x02\x00\x00\x00\x00\x00\x00\x00\x02\x0C\x00\x00\x07\x0C\x02\x00\x09";
-    let text = b"tapes 1 events 2 threshold 1 length 16\n12:d 12:t\n";
+    let text = b"tapes 1 events 2 threshold 1 length 16\n1 12:d\n1 12:t\n";
     answers(rt.alloc(), b"001 16 \n", bundle, text, false)
 }
 

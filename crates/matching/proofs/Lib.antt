@@ -1,0 +1,10 @@
+pub mod Searching
+pub mod Reaching
+pub mod Embedded
+pub mod Counting
+pub mod Ordered
+pub mod Rises
+pub mod Picking
+pub mod Placing
+pub mod Classes
+pub mod Gathering
