@@ -15,6 +15,7 @@ pub const MOST_CODE: u16 = 4095;
 
 /// An event of a scanner: a code from 0 to 4095. A larger code stands for 4095.
 #[derive(Clone, Copy, Debug, PartialEq, Eq)]
+#[repr(C)]
 pub struct Scanner {
     pub code: u16,
 }

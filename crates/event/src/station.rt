@@ -18,6 +18,7 @@ pub const MOST_OUTCOME: u8 = 2;
 
 /// An event of a station: an action from 1 to 99, its outcome (0 done, 1 refused, 2 timed out) and the station's number. An action or an outcome outside its range stands for the nearest one within.
 #[derive(Clone, Copy, Debug, PartialEq, Eq)]
+#[repr(C)]
 pub struct Station {
     pub action: u8,
     pub outcome: u8,
