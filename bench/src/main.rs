@@ -50,8 +50,8 @@ fn main() {
             &format!("support of {length} events"),
             race(
                 200,
-                || drop(black_box(proved::support(black_box(&events), &offsets, &pattern))),
-                || drop(black_box(plain::support(black_box(&events), &offsets, &pattern))),
+                || { black_box(proved::support(black_box(&events), &offsets, &pattern)); },
+                || { black_box(plain::support(black_box(&events), &offsets, &pattern)); },
             ),
         );
     }
@@ -65,8 +65,8 @@ fn main() {
             name,
             race(
                 50,
-                || drop(black_box(proved::learn(black_box(events), &mut row))),
-                || drop(black_box(plain::learn(black_box(events), &mut other))),
+                || { black_box(proved::learn(black_box(events), &mut row)); },
+                || { black_box(plain::learn(black_box(events), &mut other)); },
             ),
         );
     }

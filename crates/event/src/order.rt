@@ -13,12 +13,13 @@ pub enum Order {
 pub fn compare_numbers(a: u16, b: u16) -> Order
     ensures { λ r. ⌜ r ≡ compared a b ⌝ }
 {
-    if a < b {
-        Order::Before
-    } else if b < a {
-        Order::After
-    } else {
+    // whether two events are alike is asked most, so that comes first
+    if a == b {
         Order::Alike
+    } else if a < b {
+        Order::Before
+    } else {
+        Order::After
     }
 }
 
