@@ -4,6 +4,10 @@ mod bundles;
 #[cfg(test)]
 mod labels;
 #[cfg(test)]
+mod matches;
+#[cfg(test)]
+mod questions;
+#[cfg(test)]
 mod replies;
 
 /// The worked bundle: scanner tapes 10 20 10 30; 10 30 40; 20 10; an empty one; 30 10 20.
