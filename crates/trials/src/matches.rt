@@ -13,6 +13,7 @@ use matching::learning::learn;
 use matching::rows::check_rows;
 use matching::support::support_of;
 use std::test::*;
+use trail::trail::Trail;
 
 const TEN: Scanner = Scanner { code: 10 };
 
@@ -96,4 +97,24 @@ fn rows_are_checked() -> Result<(), Fail> {
         check_rows(&EVENTS, &[0, 4, 3, 12], &[TWENTY, TEN]),
         Err(Refusal::Offsets),
     )
+}
+
+#[test]
+fn the_trail_walks() -> Result<(), Fail> {
+    let lexicon = [TEN, TWENTY, THIRTY, FORTY];
+    let mut trail = Trail::open(&EVENTS, &OFFSETS, &lexicon);
+    check_eq(trail.support(), 5)?;
+    check_eq(trail.deeper(0, 2), Some(4))?;
+    check_eq(trail.try_event(&TEN), 1)?;
+    check_eq(trail.deeper(0, 2), None)?;
+    check_eq(trail.deeper(1, 2), Some(2))?;
+    check_eq(trail.deeper(4, 0), None)?;
+    check_eq(trail.try_event(&THIRTY), 1)?;
+    check_eq(trail.depth(), 2)?;
+    check_eq(trail.back(), true)?;
+    check_eq(trail.deeper(2, 2), Some(2))?;
+    check_eq(trail.back(), true)?;
+    check_eq(trail.back(), true)?;
+    check_eq(trail.back(), false)?;
+    check_eq(trail.support(), 5)
 }

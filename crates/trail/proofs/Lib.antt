@@ -1,0 +1,5 @@
+pub mod Projections
+pub mod Growing
+pub mod Sounding
+pub mod Opening
+pub mod Stepping
