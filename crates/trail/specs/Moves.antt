@@ -7,7 +7,6 @@ use lib.ListN.{length, set, take}
 use denote.Ref.{now, RefT}
 use Rattle.std.specs.declared.option.Option.{Option}
 use Rattle.std.specs.declared.option.Option.the-variants.{Some, None}
-use Rattle.trail.specs.declared.level.Head.{Head}
 use Rattle.trail.specs.declared.trail.Trail.{Trail}
 use Rattle.trail.specs.Levels.{end, Kept}
 use Rattle.trail.specs.Trials.{behind}

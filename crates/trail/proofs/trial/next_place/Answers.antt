@@ -1,11 +1,11 @@
-use mathlib.Core.Path.{_≡_, ap}
+use mathlib.Core.Path.{ap}
 use mathlib.Core.List.{List, []}
 use mathlib.Core.Logic.{⊎-elim}
 use Prim.Native.Nat.{ℕ, _+_, _-_, _^_, _<_, _≤_}
 use native.Mathlib.Omega.{arith}
 use lib.ListN.{length, getD, drop, length-take}
 use Rattle.std.proofs.shelf.Tests.{cases-lt}
-use Rattle.bundle.specs.Tapes.{between, tapes}
+use Rattle.bundle.specs.Tapes.{tapes}
 use Rattle.bundle.proofs.Cuts.{tape-between, tape-past}
 use Rattle.trail.proofs.trial.next_place.Needs as need
 
