@@ -1,11 +1,15 @@
 -- Where an event stands in a rising lexicon, and the lexicon with it.
 use mathlib.Core.Path.{_≡_, refl, sym, ap, _∙_}
-use mathlib.Core.Bool.{false}
+use mathlib.Core.Bool.{Bool, true, false}
 use mathlib.Core.List.{List, [], _∷_}
-use mathlib.Core.Logic.{⊎-elim}
-use Prim.Native.Nat.{ℕ, zero, suc, _+_, _<_, _≤_}
+use mathlib.Core.Logic.{_⊎_, inl, inr, ⊎-elim}
+use Prim.Native.Nat.{ℕ, zero, suc, _+_, _-_, _*_, _%_, _^_, _<_, _≤_}
+use native.Mathlib.Nat.{zero-mul}
+use native.Mathlib.Numerals.{one-add}
 use native.Mathlib.Omega.{arith}
 use lib.ListN.{length, getD}
+use mir.Val.{boolByte}
+use Rattle.std.proofs.shelf.Bits.{one-shl, pow-pos, pow-add}
 use Rattle.std.proofs.shelf.Tests.{cases-eq}
 use Rattle.std.specs.Holes.{inserted}
 use Rattle.event.specs.declared.order.Order.{Order}
@@ -15,25 +19,31 @@ use Rattle.matching.specs.Learning.{byOrder, withEvent}
 use Rattle.event.specs.Orders.{isBefore}
 use Rattle.matching.specs.Lexicons.{Rising}
 use Rattle.matching.proofs.Ordered.{Ordered, before-then}
-use Rattle.matching.proofs.Rises.{not-before}
+use Rattle.matching.proofs.Rises.{before-from, not-before}
 
 module _ {K : Type 0} (order : K → K → Order) (event : K) where
-  -- one turn of the search: what the event in the middle tells of those in front of it, and of those from it on
-  module _ (laws : Ordered order) (lexicon : List K) (rising : Rising order lexicon) (middle : ℕ) (within : middle < length lexicon) (x : K) (is : (d : K) → getD lexicon middle d ≡ x) where
-    pub all-front : order x event ≡ Before → (k : ℕ) (d : K) → k < middle + 1 → order (getD lexicon k d) event ≡ Before
+  -- one turn of the search: what an answer on the event in the middle tells of those in front of it, and of those from it on
+  module _ (laws : Ordered order) (lexicon : List K) (rising : Rising order lexicon) (middle : ℕ) (within : middle < length lexicon) (answer : Bool) (is : (d : K) → answer ≡ isBefore (order (getD lexicon middle d) event)) where
+    pub all-front : answer ≡ true → (k : ℕ) (d : K) → k < middle + 1 → order (getD lexicon k d) event ≡ Before
     all-front e k d h =
+        let here = before-from (order (getD lexicon middle d) event) (sym (is d) ∙ e) in
         ⊎-elim
-        (λ (s : k ≡ middle). ap (λ (n : ℕ). order (getD lexicon n d) event) s ∙ ap (λ (y : K). order y event) (is d) ∙ e)
-        (λ (s : k ≡ middle → ⊥). before-then order laws (getD lexicon k d) (getD lexicon middle d) event (rising k middle d (omega arith) within) (ap (λ (y : K). notAfter (order y event)) (is d) ∙ ap notAfter e))
+        (λ (s : k ≡ middle). ap (λ (n : ℕ). order (getD lexicon n d) event) s ∙ here)
+        (λ (s : k ≡ middle → ⊥). before-then order laws (getD lexicon k d) (getD lexicon middle d) event (rising k middle d (omega arith) within) (ap notAfter here))
         (cases-eq k middle)
 
-    pub none-back : (order x event ≡ Before → ⊥) → (k : ℕ) (d : K) → middle ≤ k → k < length lexicon → isBefore (order (getD lexicon k d) event) ≡ false
-    none-back other k d a b =
+    pub none-back : answer ≡ false → (k : ℕ) (d : K) → middle ≤ k → k < length lexicon → isBefore (order (getD lexicon k d) event) ≡ false
+    none-back e k d a b =
+        let here = sym (is d) ∙ e in
+        ⊎-elim
+        (λ (s : k ≡ middle). ap (λ (n : ℕ). isBefore (order (getD lexicon n d) event)) s ∙ here)
+        (λ (s : k ≡ middle → ⊥).
         not-before (order (getD lexicon k d) event)
-        (λ e. other (ap (λ (y : K). order y event) (sym (is d)) ∙ ⊎-elim
-        (λ (s : k ≡ middle). ap (λ (n : ℕ). order (getD lexicon n d) event) (sym s) ∙ e)
-        (λ (s : k ≡ middle → ⊥). before-then order laws (getD lexicon middle d) (getD lexicon k d) event (rising middle k d (omega arith) b) (ap notAfter e))
-        (cases-eq k middle)))
+        (λ before.
+        let there = ap isBefore (before-then order laws (getD lexicon middle d) (getD lexicon k d) event (rising middle k d (omega arith) b) (ap notAfter before)) in
+        let z : _≡_ {A = ℕ} 0 1 = cc in
+        omega arith))
+        (cases-eq k middle)
 
   -- the lexicon with the event, by the place where it stands
   pub with-same : (lexicon : List K) (place : ℕ) → place < length lexicon → ((k : ℕ) → k < place → order (getD lexicon k event) event ≡ Before) → order (getD lexicon place event) event ≡ Alike → withEvent order event lexicon ≡ lexicon
@@ -58,3 +68,22 @@ pub after-else : (o : Order) → isBefore o ≡ false → (o ≡ Alike → ⊥) 
 after-else Before h n = absurd (let z : _≡_ {A = ℕ} 0 1 = cc in omega arith)
 after-else Alike h n = absurd (n refl)
 after-else After h n = refl
+
+-- a power of two as it is shifted, and its half
+pub step-whole : (n : ℕ) → n < 64 → ((1 * 2 ^ n) % 18446744073709551616 ≡ 2 ^ n) × (1 ≤ 2 ^ n)
+step-whole n h = (one-shl n 64 h, pow-pos n)
+
+pub step-half : (n : ℕ) → 0 < n → 2 ^ n ≡ 2 * 2 ^ (n - 1)
+step-half zero h = absurd (omega arith)
+step-half (suc n) h =
+    let a : suc n - 1 ≡ n = omega arith in
+    let e = ap (λ (k : ℕ). 2 ^ k) a in
+    let q = pow-add 2 1 n in
+    let t = ap (λ (k : ℕ). 2 ^ k) (one-add n) in
+    omega arith
+
+-- an answer that is shifted: the step, or nothing
+pub step-by : (answer : Bool) (r n : ℕ) → r ≡ boolByte answer → ((answer ≡ true) × ((r * 2 ^ n) % 18446744073709551616 ≡ (1 * 2 ^ n) % 18446744073709551616)) ⊎ ((answer ≡ false) × ((r * 2 ^ n) % 18446744073709551616 ≡ 0))
+step-by true r n e = inl (refl, ap (λ (k : ℕ). (k * 2 ^ n) % 18446744073709551616) e)
+step-by false r n e =
+    inr (refl, ap (λ (k : ℕ). (k * 2 ^ n) % 18446744073709551616) e ∙ ap (λ (k : ℕ). k % 18446744073709551616) (zero-mul (2 ^ n)))

@@ -16,7 +16,7 @@ use Rattle.matching.specs.Lexicons.{risesStrictly, Rising, LexiconStands}
 use Rattle.matching.proofs.Ordered.{Ordered, before-then}
 use Rattle.event.specs.Orders.{notAfter}
 
-before-from : (o : Order) → isBefore o ≡ true → o ≡ Before
+pub before-from : (o : Order) → isBefore o ≡ true → o ≡ Before
 before-from Before e = refl
 before-from Alike e = absurd (let z : _≡_ {A = ℕ} 0 1 = cc in omega arith)
 before-from After e = absurd (let z : _≡_ {A = ℕ} 0 1 = cc in omega arith)

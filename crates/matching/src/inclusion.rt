@@ -11,7 +11,19 @@ pub fn place_after<K: Kind>(tape: &[K], from: usize, event: &K) -> Option<usize>
     ensures value { λ r. ⌜ r ≡ placeAfter (K·Kind .order) (now (tape .entry)) from (now (event .entry)) ⌝ }
     ensures bound { λ r. ⌜ BySome r (Unit {0}) (λ place. (from < place) × (place ≤ length (now (tape .entry)))) ⌝ }
 {
-    for i in from..tape.len() {
+    let last = tape.len().saturating_sub(1);
+    let mut i = from;
+    // two events in a turn, so that fewer turns are tested
+    while i < last {
+        if let Order::Alike = tape[i].compare(event) {
+            return Some(i + 1);
+        }
+        if let Order::Alike = tape[i + 1].compare(event) {
+            return Some(i + 2);
+        }
+        i += 2;
+    }
+    if i < tape.len() {
         if let Order::Alike = tape[i].compare(event) {
             return Some(i + 1);
         }

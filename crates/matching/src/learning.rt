@@ -1,8 +1,9 @@
 ghost use mathlib.Core.Path.{_≡_};
 ghost use mathlib.Core.List.{_++_};
 ghost use Prim.Native.Nat.{ℕ, _+_, _<_, _≤_};
-ghost use lib.ListN.{length, take, drop};
+ghost use lib.ListN.{length, getD, take, drop};
 ghost use Rattle.std.specs.Holes.{inserted};
+ghost use Rattle.event.specs.Orders.{isBefore};
 ghost use Rattle.matching.specs.Checks.{orRefused};
 ghost use Rattle.matching.specs.Learning.{learned, learnRefusal, filled, LearningStands};
 ghost use Rattle.matching.specs.Lexicons.{Rising};
@@ -13,6 +14,18 @@ use event::kind::Kind;
 use event::order::Order;
 use event::refusal::Refusal;
 
+// Whether the event at one of some places is before another.
+fn is_before<K: Kind>(events: &[K], places: &[u16], at: usize, event: &K) -> bool
+    requires within { ⌜ Within (now places) (length (now events)) ⌝ }
+    requires inside { ⌜ at < length (now places) ⌝ }
+    ensures { λ r. ⌜ ((d : K) → r ≡ isBefore (K·Kind .order (getD (picked (now (events .entry)) (now (places .entry))) at d) (now (event .entry)))) ⌝ }
+{
+    match events[places[at] as usize].compare(event) {
+        Order::Before => true,
+        _ => false,
+    }
+}
+
 // Where an event stands in the rising lexicon that places pick, or would stand.
 fn place_of<K: Kind>(events: &[K], places: &[u16], event: &K) -> usize
     requires within { ⌜ Within (now places) (length (now events)) ⌝ }
@@ -20,14 +33,22 @@ fn place_of<K: Kind>(events: &[K], places: &[u16], event: &K) -> usize
     ensures bound { λ r. ⌜ r ≤ length (now (places .entry)) ⌝ }
     ensures stands { λ r. ⌜ Stands (K·Kind .order) (picked (now (events .entry)) (now (places .entry))) (now (event .entry)) r ⌝ }
 {
-    let mut low = 0;
-    let mut high = places.len();
-    while low < high {
-        let middle = low + (high - low) / 2;
-        match events[places[middle] as usize].compare(event) {
-            Order::Before => low = middle + 1,
-            _ => high = middle,
-        }
+    let count = places.len();
+    if count == 0 {
+        return 0;
+    }
+    let mut power = count.ilog2();
+    let all = 1 << power;
+    let mut low = if is_before(events, places, all - 1, event) {
+        count - all + 1
+    } else {
+        0
+    };
+    // an answer cannot be foretold, so it is shifted and added, which needs no branch
+    while power > 0 {
+        power -= 1;
+        let half = 1 << power;
+        low += usize::from(is_before(events, places, low + half - 1, event)) << power;
     }
     low
 }
