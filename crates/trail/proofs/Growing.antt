@@ -25,7 +25,7 @@ use Rattle.trail.proofs.Projections.{grown-append}
 abbrev pub with-entry : Rows → ℕ → ℕ → ℕ → Rows
 with-entry rows at number place = record { tapes = set (rows .tapes) at number; places = set (rows .places) at place }
 
-pub kept-itself : (n : ℕ) (rows : Rows) → Kept n rows rows
+kept-itself : (n : ℕ) (rows : Rows) → Kept n rows rows
 kept-itself n rows = record { tapes = λ i h. refl; places = λ i h. refl }
 
 -- an entry that is laid behind leaves what is before

@@ -18,8 +18,9 @@ use Rattle.trail.specs.declared.trail.Trail.{Trail}
 use Rattle.trail.specs.Projection.{projection, grown}
 use Rattle.trail.specs.Levels.{level, end, Kept, Steps}
 use Rattle.trail.specs.Trials.{behind}
-use Rattle.trail.specs.Moves.{standsAt, Same, Unmoved, Deepened}
-use Rattle.trail.specs.Sound.{picked, tapesOf, listOf, headAt, LevelStands, Sound, supportWith}
+use Rattle.trail.specs.Moves.{standsAt, headAt, Same, Unmoved, Deepened}
+use Rattle.matching.specs.Picks.{picked}
+use Rattle.trail.specs.Sound.{tapesOf, listOf, LevelStands, Sound, supportWith}
 use Rattle.trail.proofs.Projections.{grows, counts}
 use Rattle.trail.proofs.Growing.{entries-kept, length-entries}
 
@@ -43,7 +44,7 @@ rise bounds depth steps k (suc m) le =
 
 module _ {K : Type 0} (trail : Trail K) where
   -- the head is that of the deepest level
-  pub head-deepest : headAt trail (trail .depth) ≡ trail .head
+  head-deepest : headAt trail (trail .depth) ≡ trail .head
   head-deepest =
       let start = trail .starts in
       let count : getD (trail .bounds) (trail .depth + 1) 0 - getD (trail .bounds) (trail .depth) 0 ≡ trail .head .count = omega (arith, trail .starts, trail .ends) in

@@ -25,7 +25,7 @@ pub record Kept (n : ℕ) (earlier later : Rows) : Type 0 where
   pub tapes : (i : ℕ) → i < n → getD (later .tapes) i 0 ≡ getD (earlier .tapes) i 0
   pub places : (i : ℕ) → i < n → getD (later .places) i 0 ≡ getD (earlier .places) i 0
 
--- level k lies from bound k to bound k + 1, and neither it nor those before it have more than 512 entries each
+-- level k lies from bound k to bound k + 1, has 512 entries at most, and ends at 512 * (k + 1) at most
 abbrev pub Step : List ℕ → ℕ → Type 0
 Step bounds k =
     (getD bounds k 0 ≤ getD bounds (k + 1) 0) × (getD bounds (k + 1) 0 ≤ getD bounds k 0 + 512) × (getD bounds (k + 1) 0 ≤ 512 * (k + 1))

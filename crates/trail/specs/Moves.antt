@@ -3,10 +3,11 @@ use mathlib.Core.Path.{_≡_}
 use mathlib.Core.Bool.{Bool, true, false}
 use mathlib.Core.List.{List, [], _∷_, _++_}
 use Prim.Native.Nat.{ℕ, _+_, _-_, _<_, _≤_}
-use lib.ListN.{length, set, take}
+use lib.ListN.{length, getD, set, take}
 use denote.Ref.{now, RefT}
 use Rattle.std.specs.declared.option.Option.{Option}
 use Rattle.std.specs.declared.option.Option.the-variants.{Some, None}
+use Rattle.trail.specs.declared.level.Head.{Head}
 use Rattle.trail.specs.declared.trail.Trail.{Trail}
 use Rattle.trail.specs.Levels.{end, Kept}
 use Rattle.trail.specs.Trials.{behind}
@@ -14,6 +15,11 @@ use Rattle.trail.specs.Trials.{behind}
 -- the list that a trail stands at, as places of its lexicon
 abbrev pub standsAt : {K : Type 0} → Trail K → List ℕ
 standsAt trail = take (trail .depth) (trail .list)
+
+-- the head of a trail's level k
+abbrev pub headAt : {K : Type 0} → Trail K → ℕ → Head
+headAt trail k =
+    record { start = getD (trail .bounds) k 0; count = getD (trail .bounds) (k + 1) 0 - getD (trail .bounds) k 0 }
 
 module _ {K : Type 0} (before after : Trail K) where
   -- what a trail was opened over stays
@@ -45,6 +51,7 @@ module _ {K : Type 0} (before after : Trail K) where
   -- a trail went back by one place
   pub record Shortened : Type 0 where
     pub rows : after .rows ≡ before .rows
+    pub head : after .head ≡ headAt before (after .depth)
     pub bounds : after .bounds ≡ before .bounds
     pub list : after .list ≡ before .list
     pub depth : after .depth + 1 ≡ before .depth

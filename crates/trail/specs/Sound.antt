@@ -1,24 +1,19 @@
 -- That the levels of a trail are the projections of its list, and what its answers then mean.
 use mathlib.Core.Path.{_≡_}
 use mathlib.Core.List.{List, [], _∷_, _++_}
-use Prim.Native.Nat.{ℕ, _+_, _-_, _<_, _≤_}
-use lib.ListN.{length, getD, take, drop}
+use Prim.Native.Nat.{ℕ, _<_, _≤_}
+use lib.ListN.{length, take, drop}
 use denote.Ref.{now}
 use Rattle.std.specs.declared.option.Option.{Option}
 use Rattle.std.specs.declared.option.Option.the-variants.{Some, None}
 use Rattle.event.specs.declared.order.Order.{Order}
 use Rattle.bundle.specs.Tapes.{tapes}
+use Rattle.matching.specs.Picks.{picked}
 use Rattle.matching.specs.Support.{support}
-use Rattle.trail.specs.declared.level.Head.{Head}
 use Rattle.trail.specs.declared.trail.Trail.{Trail}
 use Rattle.trail.specs.Projection.{projection}
 use Rattle.trail.specs.Levels.{level}
-use Rattle.trail.specs.Moves.{standsAt}
-
--- the events at some places of a lexicon; a place outside it has none
-abbrev pub picked : {K : Type 0} → List K → List ℕ → List K
-picked lexicon [] = []
-picked lexicon (place ∷ places) = take 1 (drop place lexicon) ++ picked lexicon places
+use Rattle.trail.specs.Moves.{standsAt, headAt}
 
 -- the tapes that a trail goes over
 abbrev pub tapesOf : {K : Type 0} → Trail K → List (List K)
@@ -27,11 +22,6 @@ tapesOf trail = tapes (now (trail .events)) (now (trail .offsets))
 -- the events of the list that a trail stands at
 abbrev pub listOf : {K : Type 0} → Trail K → List K
 listOf trail = picked (now (trail .lexicon)) (standsAt trail)
-
--- the head of a trail's level k
-abbrev pub headAt : {K : Type 0} → Trail K → ℕ → Head
-headAt trail k =
-    record { start = getD (trail .bounds) k 0; count = getD (trail .bounds) (k + 1) 0 - getD (trail .bounds) k 0 }
 
 -- a trail's level k, tape numbers and places, is the projection of the list's first k events
 abbrev pub LevelStands : {K : Type 0} → (K → K → Order) → Trail K → ℕ → Type 0

@@ -1,7 +1,7 @@
 ghost use mathlib.Core.Path.{_≡_};
 ghost use mathlib.Core.List.{[], _∷_};
-ghost use Prim.Native.Nat.{_≤_};
-ghost use lib.ListN.{length};
+ghost use Prim.Native.Nat.{ℕ, _<_, _≤_};
+ghost use lib.ListN.{length, getD};
 ghost use Rattle.matching.specs.Support.{support};
 ghost use Rattle.trail.specs.Moves.{standsAt, Same, Unmoved, Deeper, Back, Opened};
 ghost use Rattle.trail.specs.Sound.{tapesOf, listOf, supportWith, Sound, DeeperMeans};
@@ -125,7 +125,8 @@ impl<'a, K: Kind> Trail<'a, K> {
 
     /// The list, as places of the lexicon.
     pub fn places(&self) -> &[u16]
-        ensures { λ r. ⌜ now r ≡ standsAt (now (self .entry)) ⌝ }
+        ensures list { λ r. ⌜ now r ≡ standsAt (now (self .entry)) ⌝ }
+        ensures known { λ r. ⌜ ((k : ℕ) → k < length (now r) → getD (now r) k 0 < length (now (now (self .entry) .lexicon))) ⌝ }
     {
         &self.list[0..self.depth]
     }

@@ -25,4 +25,4 @@ short events offsets number fit =
 pub cast-result : need.cast-result
 cast-result g c =
     let s = short (c .args .events .now) (c .args .offsets .now) (c .args .tape) (λ i. let f = c .typed .offsets i in omega arith) in
-    omega (arith, ap length (c .tape-at .ensures), c .in-Some .ensures tt .bound .1)
+    omega (arith, rw (c .tape-at .ensures) at (c .in-Some .ensures tt .bound .1))

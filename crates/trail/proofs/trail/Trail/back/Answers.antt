@@ -8,11 +8,12 @@ pub returns : need.returns
 returns g c =
     let trail = c .args .self .now in
     record {
-      same = record { events = refl; offsets = refl; lexicon = refl };
+      same = record { events = refl {a = trail .events}; offsets = refl {a = trail .offsets}; lexicon = refl {a = trail .lexicon} };
       moved = record {
-        rows = refl;
-        bounds = refl;
-        list = refl;
+        rows = refl {a = trail .rows};
+        head = refl;
+        bounds = refl {a = trail .bounds};
+        list = refl {a = trail .list};
         depth = omega arith;
         stands = sym (take-take (trail .depth - 1) (trail .depth) (trail .list) (omega arith));
       };

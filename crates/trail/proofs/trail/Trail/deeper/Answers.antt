@@ -1,4 +1,5 @@
 use mathlib.Core.Path.{_≡_, refl, sym, ap, _∙_}
+use mathlib.Core.List.{[], _∷_}
 use mathlib.Core.Logic.{_≢_}
 use Prim.Native.Nat.{_+_, _<_, _≤_}
 use native.Mathlib.Omega.{arith}
@@ -7,6 +8,9 @@ use lib.ListN.{length, getD}
 use Rattle.std.proofs.shelf.Lists.{getD-set-same, getD-set-other}
 use Rattle.trail.specs.declared.level.Head.{Head}
 use Rattle.trail.specs.Levels.{end}
+use Rattle.trail.specs.Trials.{nextLevel}
+use Rattle.matching.specs.Picks.{picked}
+use Rattle.trail.specs.Sound.{tapesOf}
 use Rattle.trail.proofs.Growing.{reached, missed}
 use Rattle.trail.proofs.Stepping.{steps-more, known-more}
 use Rattle.trail.proofs.Sounding.{picked-one, deepened, sound-unmoved, sound-deeper, counts-grown}
@@ -19,14 +23,14 @@ returns-in-rest g c =
     let place = c .args .place in
     let tried = c .in-rest .ensures tt in
     record {
-      same = record { events = refl; offsets = refl; lexicon = refl };
-      moved = record { head = tried .moved; bounds = refl; list = refl; depth = refl; rows = tried .kept };
+      same = record { events = refl {a = trail .events}; offsets = refl {a = trail .offsets}; lexicon = refl {a = trail .lexicon} };
+      moved = record { head = tried .moved; bounds = refl {a = trail .bounds}; list = refl {a = trail .list}; depth = refl {a = trail .depth}; rows = tried .kept };
       means = λ sound room known.
           let event = getD (trail .lexicon .now) place (c .index-self-place .result) in
-          let few = missed (c .args .need) _ (tried .answer) in
-          let counted = counts-grown order trail sound event _ (picked-one (trail .lexicon .now) place (c .index-self-place .result) known) in
+          let few = missed (c .args .need) (length (nextLevel order (tapesOf trail) event (trail .rows) (trail .head))) (tried .answer) in
+          let counted = counts-grown order trail sound event (picked (trail .lexicon .now) (place ∷ [])) (picked-one (trail .lexicon .now) place (c .index-self-place .result) known) in
           omega arith;
-      sound = sound-unmoved order trail _ (record { events = refl; offsets = refl; lexicon = refl }) (record { head = tried .moved; bounds = refl; list = refl; depth = refl; rows = tried .kept });
+      sound = sound-unmoved order trail _ (record { events = refl {a = trail .events}; offsets = refl {a = trail .offsets}; lexicon = refl {a = trail .lexicon} }) (record { head = tried .moved; bounds = refl {a = trail .bounds}; list = refl {a = trail .list}; depth = refl {a = trail .depth}; rows = tried .kept });
     }
 
 pub ghost-self-2 : need.ghost-self-2
@@ -65,11 +69,11 @@ returns g c =
     let count = c .in-Some .count in
     let event = getD (trail .lexicon .now) place (c .index-self-place .result) in
     let one = picked-one (trail .lexicon .now) place (c .index-self-place .result) known in
-    let came = reached (c .args .need) _ count (tried .answer) in
+    let came = reached (c .args .need) (length (nextLevel order (tapesOf trail) event (trail .rows) (trail .head))) count (tried .answer) in
     let enough : c .args .need ≤ count = omega (arith, came .0, came .1) in
     record {
-      same = record { events = refl; offsets = refl; lexicon = refl };
+      same = record { events = refl {a = trail .events}; offsets = refl {a = trail .offsets}; lexicon = refl {a = trail .lexicon} };
       moved = deepened trail _ place (c .args .need) count room within known enough (tried .moved) refl refl refl (tried .kept);
-      means = λ sound. came .1 ∙ counts-grown order trail sound event _ one;
-      sound = sound-deeper order trail _ place (c .args .need) count event one (record { events = refl; offsets = refl; lexicon = refl }) (deepened trail _ place (c .args .need) count room within known enough (tried .moved) refl refl refl (tried .kept)) (tried .laid .1);
+      means = λ sound. came .1 ∙ counts-grown order trail sound event (picked (trail .lexicon .now) (place ∷ [])) one;
+      sound = sound-deeper order trail _ place (c .args .need) count event one (record { events = refl {a = trail .events}; offsets = refl {a = trail .offsets}; lexicon = refl {a = trail .lexicon} }) (deepened trail _ place (c .args .need) count room within known enough (tried .moved) refl refl refl (tried .kept)) (tried .laid .1);
     }
