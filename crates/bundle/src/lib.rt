@@ -1,4 +1,6 @@
 // The bundle file: the tapes of one kind of event, in bytes.
+#![tactic(auto)]
+
 pub mod fault;
 pub mod number;
 pub mod offsets;

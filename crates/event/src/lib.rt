@@ -1,4 +1,6 @@
 // Events: the kinds of event behind one trait, their order, bytes and labels, and the refusals.
+#![tactic(auto)]
+
 pub mod decimal;
 pub mod kind;
 pub mod order;

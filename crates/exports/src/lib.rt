@@ -1,4 +1,6 @@
 // C functions over the library, for benchmarks and tests that are written in Rust.
+#![tactic(auto)]
+
 ghost use Rattle.std.specs.Prelude.{◌≡◌, length, Err};
 ghost use Rattle.event.specs.Scanners.{order_of};
 ghost use Rattle.bundle.specs.Tapes.{tapes};

@@ -1,4 +1,6 @@
 // Filters: which lists of events are wanted, and which lists have no wanted extension.
+#![tactic(auto)]
+
 pub mod alike;
 pub mod all;
 pub mod both;

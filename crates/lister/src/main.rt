@@ -1,4 +1,6 @@
 // The lister: a query line and a bundle file on standard input, the list on standard output.
+#![tactic(auto)]
+
 use listing::input::MOST_INPUT;
 use listing::list::reply_to;
 use std::alloc::AllocError;

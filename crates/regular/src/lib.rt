@@ -1,4 +1,6 @@
 // Regular expressions over events: their languages, as tables of nodes and as automata.
+#![tactic(auto)]
+
 pub mod asking;
 pub mod automaton;
 pub mod expression;

@@ -1,4 +1,6 @@
 // The session: a list of patterns that is taken one by one, cut short and tightened while it is read.
+#![tactic(auto)]
+
 pub mod call;
 pub mod calls;
 pub mod opening;

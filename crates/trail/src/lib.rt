@@ -1,4 +1,6 @@
 // The trail: the tapes that include a list, and the place behind it in each, level by level.
+#![tactic(auto)]
+
 pub mod level;
 pub mod moves;
 pub mod projection;

@@ -1,4 +1,6 @@
 // Tests of the layers by examples, in a crate of their own.
+#![tactic(auto)]
+
 #[cfg(test)]
 mod bundles;
 #[cfg(test)]

@@ -36,10 +36,10 @@ module _ (file : List ℕ) (counts : ℕ × ℕ) (read : counts ≡ (tapes_in fi
   stops e =
       wrong_here (events_in file) (offsets_in file) i before here (eqb i counts.0) inside earlier here_is last_is (events_read false e)
 
-pub overflow-cast-events : goal.overflow-cast-events
-overflow-cast-events c =
+pub overflow_cast-events : goal.overflow_cast-events
+overflow_cast-events c =
     let events = ap (λ (p : ℕ × ℕ). p.1) c.counts-tapes.ensures in
-    let small = four_small 4 c.args.file.now (omega arith) (λ i. omega (arith, c.type-inv.file i)) in
+    let small = four_small 4 c.args.file.now (omega arith) (λ i. omega (arith, c.type_inv.file i)) in
     omega arith
 
 pub loop-index-init : goal.loop-index-init
@@ -47,11 +47,11 @@ loop-index-init c =
     let file = c.args.file.now in
     ((λ h. absurd (omega arith)), wrong_first (events_in file) (offsets_in file) (omega (arith, length_offsets file)))
 
-pub returns-then-not-is-right : goal.returns-then-not-is-right
-returns-then-not-is-right c =
+pub returns-then-not-is_right : goal.returns-then-not-is_right
+returns-then-not-is_right c =
     let file = c.args.file.now in
     fails_at (wrong_offset (events_in file) (offsets_in file)) (λ i. Offsets i (span (offset_place i) 4)) tt c.loop-index.index
-    (stops file c.counts-tapes.result c.counts-tapes.ensures c.loop-index.index c.loop-index.before c.offset-at-here.result c.loop-index-test.true c.loop-index.invariant.0 c.offset-at-here.ensures c.if-not-is-right.ensures ∙ c.loop-index.invariant.1)
+    (stops file c.counts-tapes.result c.counts-tapes.ensures c.loop-index.index c.loop-index.before c.offset_at-here.result c.loop-index-test.true c.loop-index.invariant.0 c.offset_at-here.ensures c.if-not-is_right.ensures ∙ c.loop-index.invariant.1)
 
 pub loop-index-preserved : goal.loop-index-preserved
 loop-index-preserved c =
@@ -59,7 +59,7 @@ loop-index-preserved c =
     let i = c.loop-index.index in
     let same : i + 1 - 1 ≡ i = omega arith in
     let tapes = ap (λ (p : ℕ × ℕ). p.0) c.counts-tapes.ensures in
-    ((λ h. c.offset-at-here.ensures ∙ sym (ap (λ (k : ℕ). get_or (offsets_in file) k 0) same ∙ get_d_offsets file i (omega arith))), goes_on file c.counts-tapes.result c.counts-tapes.ensures i c.loop-index.before c.offset-at-here.result c.loop-index-test.true c.loop-index.invariant.0 c.offset-at-here.ensures c.if-not-is-right.ensures ∙ c.loop-index.invariant.1)
+    ((λ h. c.offset_at-here.ensures ∙ sym (ap (λ (k : ℕ). get_or (offsets_in file) k 0) same ∙ get_d_offsets file i (omega arith))), goes_on file c.counts-tapes.result c.counts-tapes.ensures i c.loop-index.before c.offset_at-here.result c.loop-index-test.true c.loop-index.invariant.0 c.offset_at-here.ensures c.if-not-is_right.ensures ∙ c.loop-index.invariant.1)
 
 pub returns : goal.returns
 returns c =

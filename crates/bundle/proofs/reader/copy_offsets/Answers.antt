@@ -11,7 +11,7 @@ more f start row i x inv e h = let w = write_counted_more f start i h in cc
 pub loop-index-preserved : goal.loop-index-preserved
 loop-index-preserved c =
     let tapes = ap (λ (p : ℕ × ℕ). p.0) c.counts-tapes.ensures in
-    more (offset_in c.args.file.now) c.args.row.now c.loop-index.row c.loop-index.index c.offset-at.result c.loop-index.invariant c.offset-at.ensures (omega arith)
+    more (offset_in c.args.file.now) c.args.row.now c.loop-index.row c.loop-index.index c.offset_at.result c.loop-index.invariant c.offset_at.ensures (omega arith)
 
 pub returns : goal.returns
 returns c =

@@ -67,26 +67,26 @@ module _ {K : Type 0} (number width : ℕ) (stands : List ℕ → Option K) (fil
               events_after = row_filled fault (events_of width stands file) events events_after (events_in file) e el many (file_passes ∙ room);
             }
 
-pub returns-in-err-check-counts : goal.returns-in-err-check-counts
-returns-in-err-check-counts g c =
-    by_counts g.K.Kind.number g.K.Kind.width g.K.Kind.stands c.args.file.now c.args.offsets.now c.args.events.now c.from-residual.result c.in-err-check-counts.field-0.0 c.from-residual.ensures.1 c.in-err-check-counts.ensures
+pub returns-in_err-check_counts : goal.returns-in_err-check_counts
+returns-in_err-check_counts g c =
+    by_counts g.K.Kind.number g.K.Kind.width g.K.Kind.stands c.args.file.now c.args.offsets.now c.args.events.now c.from_residual.result c.in_err-check_counts.field-0.0 c.from_residual.ensures.1 c.in_err-check_counts.ensures
 
-pub returns-in-err-check-offsets : goal.returns-in-err-check-offsets
-returns-in-err-check-offsets g c =
-    by_offsets g.K.Kind.number g.K.Kind.width g.K.Kind.stands c.args.file.now c.args.offsets.now c.args.events.now c.in-ok-check-counts.ensures c.from-residual-in-err-check-offsets.result c.in-err-check-offsets.field-0.0 c.from-residual-in-err-check-offsets.ensures.1 c.in-err-check-offsets.ensures
+pub returns-in_err-check_offsets : goal.returns-in_err-check_offsets
+returns-in_err-check_offsets g c =
+    by_offsets g.K.Kind.number g.K.Kind.width g.K.Kind.stands c.args.file.now c.args.offsets.now c.args.events.now c.in_ok-check_counts.ensures c.from_residual-in_err-check_offsets.result c.in_err-check_offsets.field-0.0 c.from_residual-in_err-check_offsets.ensures.1 c.in_err-check_offsets.ensures
 
-pub returns-in-err-check-events : goal.returns-in-err-check-events
-returns-in-err-check-events g c =
-    by_events g.K.Kind.number g.K.Kind.width g.K.Kind.stands c.args.file.now c.args.offsets.now c.args.events.now c.in-ok-check-counts.ensures c.in-ok-check-offsets.ensures c.from-residual-in-err-check-events.result c.in-err-check-events.field-0.0 c.from-residual-in-err-check-events.ensures.1 c.in-err-check-events.ensures
+pub returns-in_err-check_events : goal.returns-in_err-check_events
+returns-in_err-check_events g c =
+    by_events g.K.Kind.number g.K.Kind.width g.K.Kind.stands c.args.file.now c.args.offsets.now c.args.events.now c.in_ok-check_counts.ensures c.in_ok-check_offsets.ensures c.from_residual-in_err-check_events.result c.in_err-check_events.field-0.0 c.from_residual-in_err-check_events.ensures.1 c.in_err-check_events.ensures
 
-pub returns-then-offsets-tape-count : goal.returns-then-offsets-tape-count
-returns-then-offsets-tape-count g c =
-    let tapes = ap (λ (p : ℕ × ℕ). p.0) c.counts-tape-count.ensures in
-    let count = ap (λ (p : ℕ × ℕ). p.1) c.counts-tape-count.ensures in
-    by_room g.K.Kind.number g.K.Kind.width g.K.Kind.stands c.args.file.now c.args.offsets.now c.args.events.now c.in-ok-check-counts.ensures c.in-ok-check-offsets.ensures c.in-ok-check-events.ensures (λ enough many. omega (arith, c.then-offsets-tape-count.either))
+pub returns-then-offsets-tape_count : goal.returns-then-offsets-tape_count
+returns-then-offsets-tape_count g c =
+    let tapes = ap (λ (p : ℕ × ℕ). p.0) c.counts-tape_count.ensures in
+    let count = ap (λ (p : ℕ × ℕ). p.1) c.counts-tape_count.ensures in
+    by_room g.K.Kind.number g.K.Kind.width g.K.Kind.stands c.args.file.now c.args.offsets.now c.args.events.now c.in_ok-check_counts.ensures c.in_ok-check_offsets.ensures c.in_ok-check_events.ensures (λ enough many. omega (arith, c.then-offsets-tape_count.either))
 
 pub returns : goal.returns
 returns g c =
-    let tapes = ap (λ (p : ℕ × ℕ). p.0) c.counts-tape-count.ensures in
-    let count = ap (λ (p : ℕ × ℕ). p.1) c.counts-tape-count.ensures in
-    read g.K.Kind.number g.K.Kind.width g.K.Kind.stands c.args.file.now c.args.offsets.now c.args.events.now c.in-ok-check-counts.ensures c.in-ok-check-offsets.ensures c.in-ok-check-events.ensures c.counts-tape-count.result c.copy-offsets.new.row c.copy-events.new.row c.counts-tape-count.ensures (omega arith) (omega arith) c.copy-offsets.ensures c.copy-offsets.auto.row c.copy-events.ensures c.copy-events.auto.row
+    let tapes = ap (λ (p : ℕ × ℕ). p.0) c.counts-tape_count.ensures in
+    let count = ap (λ (p : ℕ × ℕ). p.1) c.counts-tape_count.ensures in
+    read g.K.Kind.number g.K.Kind.width g.K.Kind.stands c.args.file.now c.args.offsets.now c.args.events.now c.in_ok-check_counts.ensures c.in_ok-check_offsets.ensures c.in_ok-check_events.ensures c.counts-tape_count.result c.copy_offsets.new.row c.copy_events.new.row c.counts-tape_count.ensures (omega arith) (omega arith) c.copy_offsets.ensures c.copy_offsets.auto.row c.copy_events.ensures c.copy_events.auto.row

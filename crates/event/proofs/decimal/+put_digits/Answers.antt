@@ -22,19 +22,19 @@ filled n row front k len ten small e at =
     let s = decimal_step n ten small in
     cc
 
-pub overflow-sub-last : goal.overflow-sub-last
-overflow-sub-last t c = omega (arith, decimal_nonempty c.args.n (omega arith))
+pub overflow_sub-last : goal.overflow_sub-last
+overflow_sub-last t c = omega (arith, decimal_nonempty c.args.n (omega arith))
 
 pub bounds-row-last : goal.bounds-row-last
 bounds-row-last t c = omega (arith, decimal_nonempty c.args.n (omega arith))
 
-pub put-digits-requires : goal.put-digits-requires
-put-digits-requires t c =
+pub put_digits-requires : goal.put_digits-requires
+put_digits-requires t c =
     let e = length_step c.args.n (omega arith) (omega arith) in (omega arith, simp (length-take, length-set) (omega arith))
 
 pub returns-then-n-ge10 : goal.returns-then-n-ge10
 returns-then-n-ge10 t c =
-    filled c.args.n c.args.row.now c.put-digits.new.row (length c.args.row.now - 1 - 0) c.requires (omega arith) (omega arith) c.put-digits.ensures (omega arith)
+    filled c.args.n c.args.row.now c.put_digits.new.row (length c.args.row.now - 1 - 0) c.requires (omega arith) (omega arith) c.put_digits.ensures (omega arith)
 
 pub returns-else-n-ge10 : goal.returns-else-n-ge10
 returns-else-n-ge10 t c =

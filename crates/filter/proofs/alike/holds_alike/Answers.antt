@@ -12,7 +12,7 @@ returns-in-Alike g c =
 pub loop-other-preserved : goal.loop-other-preserved
 loop-other-preserved g c =
     c.loop-other.invariant
-    ∙ holds_on g.K.Kind.order c.args.event.now c.args.list.now c.loop-other.other-index c.other-item.result c.compare.result c.loop-other-test.true c.other-item.is c.compare.ensures c.in-default.not-Alike
+    ∙ holds_on g.K.Kind.order c.args.event.now c.args.list.now c.loop-other.other-index c.other-item.result c.compare.result c.loop-other-test.true c.other-item.is c.compare.ensures c.in_default.not-Alike
 
 pub returns : goal.returns
 returns g c =

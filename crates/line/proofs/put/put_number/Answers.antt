@@ -8,8 +8,8 @@ returns-in-Ok c =
     let row = c.args.row.now in
     let place = c.args.at in
     let bytes = decimal c.args.n in
-    let f = fits_written (length bytes) (length (take (length row - place) (drop place row))) c.in-Ok.count (sym c.write-decimal.ensures.answer ∙ c.in-Ok.is) in
-    record { value = omega arith; after = put_rest place row bytes c.write-decimal.new.row c.requires c.write-decimal.ensures.after }
+    let f = fits_written (length bytes) (length (take (length row - place) (drop place row))) c.in-Ok.count (sym c.write_decimal.ensures.answer ∙ c.in-Ok.is) in
+    record { value = omega arith; after = put_rest place row bytes c.write_decimal.new.row c.requires c.write_decimal.ensures.after }
 
 pub returns-in-Err : goal.returns-in-Err
 returns-in-Err c =
@@ -17,5 +17,5 @@ returns-in-Err c =
     let place = c.args.at in
     let bytes = decimal c.args.n in
     let l = length_rest place row in
-    let s = short_written (length bytes) (length (take (length row - place) (drop place row))) c.in-Err.field-0 (sym c.write-decimal.ensures.answer ∙ c.in-Err.is) in
+    let s = short_written (length bytes) (length (take (length row - place) (drop place row))) c.in-Err.field-0 (sym c.write_decimal.ensures.answer ∙ c.in-Err.is) in
     absurd (omega arith)

@@ -8,13 +8,13 @@ use Rattle.line.proofs.Joining.{joined_next, joined_step, joined_all}
 use Rattle.line.proofs.Rooms.{left_fits, left_short, fits_left, short_left}
 use Rattle.line.proofs.writer.after_line.Goals as goal
 
-pub returns-in-err-rest : goal.returns-in-err-rest
-returns-in-err-rest g c =
+pub returns-in_err-rest : goal.returns-in_err-rest
+returns-in_err-rest g c =
     let f = piece_text g.K.Kind.label c.args.bytes.now c.args.events.now in
     let xs = c.args.pieces.now in
     let n = joined_next f xs c.loop-piece.piece-index (get_or c.args.pieces.now c.loop-piece.piece-index (Word Tapes)) c.loop-piece-test.true (get_or_default c.args.pieces.now c.loop-piece.piece-index (Word Tapes) (get_or c.args.pieces.now c.loop-piece.piece-index (Word Tapes)) c.loop-piece-test.true) in
-    let s = short_left c.loop-piece.rest (length (f (get_or c.args.pieces.now c.loop-piece.piece-index (Word Tapes)))) (sym c.after-piece.ensures ∙ c.in-err-rest.was) in
-    c.from-residual.ensures ∙ sym (left_short c.args.room (length (flat_map f xs)) (omega arith))
+    let s = short_left c.loop-piece.rest (length (f (get_or c.args.pieces.now c.loop-piece.piece-index (Word Tapes)))) (sym c.after_piece.ensures ∙ c.in_err-rest.was) in
+    c.from_residual.ensures ∙ sym (left_short c.args.room (length (flat_map f xs)) (omega arith))
 
 pub loop-piece-preserved : goal.loop-piece-preserved
 loop-piece-preserved g c =
@@ -24,7 +24,7 @@ loop-piece-preserved g c =
     let x = get_or c.args.pieces.now c.loop-piece.piece-index (Word Tapes) in
     let e : length (flat_map f (take (i + 1) xs)) ≡ length (flat_map f (take i xs)) + length (f x) =
     ap length (joined_step f xs i x c.loop-piece-test.true (get_or_default c.args.pieces.now c.loop-piece.piece-index (Word Tapes) (get_or c.args.pieces.now c.loop-piece.piece-index (Word Tapes)) c.loop-piece-test.true)) ∙ length-append (flat_map f (take i xs)) (f x) in
-    let a = fits_left c.loop-piece.rest (length (f x)) c.in-ok-rest.rest (sym c.after-piece.ensures ∙ c.in-ok-rest.was) in
+    let a = fits_left c.loop-piece.rest (length (f x)) c.in_ok-rest.rest (sym c.after_piece.ensures ∙ c.in_ok-rest.was) in
     omega arith
 
 pub returns : goal.returns

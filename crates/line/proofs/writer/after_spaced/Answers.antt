@@ -6,23 +6,23 @@ use Rattle.line.proofs.Joining.{joined_next, joined_step, joined_all}
 use Rattle.line.proofs.Rooms.{left_fits, left_short, fits_left, short_left}
 use Rattle.line.proofs.writer.after_spaced.Goals as goal
 
-pub returns-in-err-rest : goal.returns-in-err-rest
-returns-in-err-rest g c =
+pub returns-in_err-rest : goal.returns-in_err-rest
+returns-in_err-rest g c =
     let f = spaced g.K.Kind.label in
     let xs = c.args.events.now in
     let n = joined_next f xs c.loop-event.event-index c.event-item.result c.loop-event-test.true c.event-item.is in
-    let s = short_left c.loop-event.rest 1 (sym c.after-bytes.ensures ∙ c.in-err-rest.was) in
-    c.from-residual.ensures ∙ sym (left_short c.args.room (length (flat_map f xs)) (omega arith))
+    let s = short_left c.loop-event.rest 1 (sym c.after_bytes.ensures ∙ c.in_err-rest.was) in
+    c.from_residual.ensures ∙ sym (left_short c.args.room (length (flat_map f xs)) (omega arith))
 
-pub returns-in-err-rest-2 : goal.returns-in-err-rest-2
-returns-in-err-rest-2 g c =
+pub returns-in_err-rest-2 : goal.returns-in_err-rest-2
+returns-in_err-rest-2 g c =
     let f = spaced g.K.Kind.label in
     let xs = c.args.events.now in
     let n = joined_next f xs c.loop-event.event-index c.event-item.result c.loop-event-test.true c.event-item.is in
-    let a = fits_left c.loop-event.rest 1 c.in-ok-rest.rest (sym c.after-bytes.ensures ∙ c.in-ok-rest.was) in
-    let s = short_left c.in-ok-rest.rest c.label-length.result (sym c.after-bytes-in-loop-event.ensures ∙ c.in-err-rest-2.was) in
-    let l : c.label-length.result ≡ length (g.K.Kind.label c.event-item.result) = c.label-length.ensures in
-    c.from-residual-in-err-rest-2.ensures ∙ sym (left_short c.args.room (length (flat_map f xs)) (omega arith))
+    let a = fits_left c.loop-event.rest 1 c.in_ok-rest.rest (sym c.after_bytes.ensures ∙ c.in_ok-rest.was) in
+    let s = short_left c.in_ok-rest.rest c.label_length.result (sym c.after_bytes-in-loop-event.ensures ∙ c.in_err-rest-2.was) in
+    let l : c.label_length.result ≡ length (g.K.Kind.label c.event-item.result) = c.label_length.ensures in
+    c.from_residual-in_err-rest-2.ensures ∙ sym (left_short c.args.room (length (flat_map f xs)) (omega arith))
 
 pub loop-event-preserved : goal.loop-event-preserved
 loop-event-preserved g c =
@@ -32,9 +32,9 @@ loop-event-preserved g c =
     let x = c.event-item.result in
     let e : length (flat_map f (take (i + 1) xs)) ≡ length (flat_map f (take i xs)) + length (f x) =
     ap length (joined_step f xs i x c.loop-event-test.true c.event-item.is) ∙ length-append (flat_map f (take i xs)) (f x) in
-    let a = fits_left c.loop-event.rest 1 c.in-ok-rest.rest (sym c.after-bytes.ensures ∙ c.in-ok-rest.was) in
-    let b = fits_left c.in-ok-rest.rest c.label-length.result c.in-ok-rest-2.rest (sym c.after-bytes-in-loop-event.ensures ∙ c.in-ok-rest-2.was) in
-    let l : c.label-length.result ≡ length (g.K.Kind.label x) = c.label-length.ensures in
+    let a = fits_left c.loop-event.rest 1 c.in_ok-rest.rest (sym c.after_bytes.ensures ∙ c.in_ok-rest.was) in
+    let b = fits_left c.in_ok-rest.rest c.label_length.result c.in_ok-rest-2.rest (sym c.after_bytes-in-loop-event.ensures ∙ c.in_ok-rest-2.was) in
+    let l : c.label_length.result ≡ length (g.K.Kind.label x) = c.label_length.ensures in
     omega arith
 
 pub returns : goal.returns

@@ -11,8 +11,8 @@ returns-in-Before g c d =
     let e = read_picked c.args.events.now c.args.places.now c.requires.within c.args.at c.requires.inside x c.index-events-places.is d in
     sym (ap (λ (y : g.row.K.Denot). is_before (g.K.Kind.order y c.args.event.now)) e ∙ ap is_before (sym c.in-Before.ensures))
 
-pub returns-in-default : goal.returns-in-default
-returns-in-default g c d =
+pub returns-in_default : goal.returns-in_default
+returns-in_default g c d =
     let x = c.index-events-places.result in
     let e = read_picked c.args.events.now c.args.places.now c.requires.within c.args.at c.requires.inside x c.index-events-places.is d in
-    sym (ap (λ (y : g.row.K.Denot). is_before (g.K.Kind.order y c.args.event.now)) e ∙ not_before (g.K.Kind.order x c.args.event.now) (λ z. c.in-default.not-Before (c.compare.ensures ∙ z)))
+    sym (ap (λ (y : g.row.K.Denot). is_before (g.K.Kind.order y c.args.event.now)) e ∙ not_before (g.K.Kind.order x c.args.event.now) (λ z. c.in_default.not-Before (c.compare.ensures ∙ z)))

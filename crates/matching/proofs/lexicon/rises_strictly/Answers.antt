@@ -2,9 +2,9 @@ use Rattle.std.proofs.Common.{sym, ◌∙◌}
 use Rattle.matching.proofs.Rises.{rises_on, rises_stops, rises_all}
 use Rattle.matching.proofs.lexicon.rises_strictly.Goals as goal
 
-pub returns-in-default : goal.returns-in-default
-returns-in-default g c =
-    rises_stops g.K.Kind.order c.args.lexicon.now c.loop-i.i c.index-lexicon-i.result c.index-lexicon-i-in-loop-i.result c.loop-i.auto.i c.loop-i-test.true c.index-lexicon-i.is c.index-lexicon-i-in-loop-i.is (λ e. c.in-default.not-Before (c.compare.ensures ∙ e))
+pub returns-in_default : goal.returns-in_default
+returns-in_default g c =
+    rises_stops g.K.Kind.order c.args.lexicon.now c.loop-i.i c.index-lexicon-i.result c.index-lexicon-i-in-loop-i.result c.loop-i.auto.i c.loop-i-test.true c.index-lexicon-i.is c.index-lexicon-i-in-loop-i.is (λ e. c.in_default.not-Before (c.compare.ensures ∙ e))
     ∙ c.loop-i.invariant
 
 pub loop-i-preserved : goal.loop-i-preserved

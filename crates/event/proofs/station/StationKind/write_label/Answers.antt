@@ -25,7 +25,7 @@ returns-then-row-digits c =
     let s = c.args.self.now in
     let ds = decimal (action_of s) in
     let b = both ds c.args.row.now 58 (letter_of (outcome_of s)) in
-    let n : c.decimal-length-digits.result ≡ length ds = cc in
+    let n : c.decimal_length-digits.result ≡ length ds = cc in
     record {
       answer = sym (written_short (length (ds ++ (58 ∷ letter_of (outcome_of s) ∷ []))) (length c.args.row.now) (omega arith));
       after = sym (laid_short (ds ++ (58 ∷ letter_of (outcome_of s) ∷ [])) c.args.row.now (omega arith));
@@ -37,10 +37,10 @@ returns c =
     let row = c.args.row.now in
     let ds = decimal (action_of s) in
     let l = letter_of (outcome_of s) in
-    let n : c.decimal-length-digits.result ≡ length ds = cc in
+    let n : c.decimal_length-digits.result ≡ length ds = cc in
     let h : length ds + 2 ≤ length row = omega arith in
     let m : c.letter.result ≡ l = cc in
-    let w : c.write-decimal.new.row ≡ laid ds row = cc c.in-ok-write-decimal.ensures.after in
+    let w : c.write_decimal.new.row ≡ laid ds row = cc c.in_ok-write_decimal.ensures.after in
     let o = ok ds row 58 l h in
     let d = done ds row 58 l h in
     record { answer = cc; after = cc }
