@@ -7,7 +7,7 @@ use regular::expression::Expression;
 
 /// Wants the lists of an expression's language; a list is barren exactly where no extension is in it.
 #[derive(Drop)]
-pub struct Matches<K: Kind> {
+pub struct Matches<K> {
     pub expression: Expression<K>,
 }
 

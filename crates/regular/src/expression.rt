@@ -6,11 +6,10 @@ ghost use Rattle.regular.specs.Trees.{tree};
 use crate::automaton::Automaton;
 use crate::label::Label;
 use crate::table::Table;
-use event::kind::Kind;
 
 /// An expression, made ready to be asked of lists of events.
 #[derive(Drop)]
-pub struct Expression<K: Kind> {
+pub struct Expression<K> {
     pub(crate) labels: Vec<Label<K>>,
     pub(crate) table: Table,
     pub(crate) root: usize,

@@ -162,7 +162,10 @@ module _ {K : Type 0} where
         ap over k
 
     pub same_limits : (need : ℕ) → limits_of after need ≡ limits_of before need
-    same_limits need = rw (same.lexicon, same.longest)
+    same_limits need =
+        let over : List K → ℕ → Limits = λ ks longest. record { places = length ks; longest = longest; need = need } in
+        let k : lexicon_of after ≡ lexicon_of before = ap (λ x. x.now) same.lexicon in
+        ap (λ (ks : List K). over ks after.longest) k ∙ ap (over (lexicon_of before)) same.longest
 
     -- what the filter answers of the list after a move
     pub same_answer : (wants : List K → Bool) (list : List K) (answer : Bool) → list ≡ picked (lexicon_of after) (at after) → answer ≡ wants list → wants_of wants before (at after) ≡ answer

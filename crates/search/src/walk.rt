@@ -2,12 +2,11 @@ ghost use Rattle.std.specs.Prelude.{◌≡◌, ◌≤◌, length, take};
 ghost use Rattle.matching.specs.Picks.{picked};
 ghost use Rattle.trail.specs.Moves.{stands_at};
 
-use event::kind::Kind;
 use trail::trail::Trail;
 
 /// A walk over the lists of an opening: the trail, room for the events of the list at which it stands, and the longest length.
 #[derive(Drop)]
-pub struct Walk<'a, K: Kind> {
+pub struct Walk<'a, K> {
     pub(crate) trail: Trail<'a, K>,
     pub(crate) room: Vec<K>,
     pub(crate) longest: usize,

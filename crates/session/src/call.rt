@@ -1,11 +1,10 @@
 use crate::opening::Opening;
 use crate::places::Places;
-use event::kind::Kind;
 use event::refusal::Refusal;
 
 /// A call to a session: an opening, a next with a row of so many places, a skip, a raise to a threshold, a probe with an event, a tell.
 #[derive(Drop)]
-pub enum Call<'a, K: Kind> {
+pub enum Call<'a, K> {
     Open(Opening<'a, K>),
     Next(usize),
     Skip,

@@ -13,7 +13,7 @@ pub const MOST_THRESHOLD: u32 = 512;
 
 /// What a session is opened with: tape t has the events from offset t to just before offset t + 1.
 #[derive(Clone, Copy)]
-pub struct Opening<'a, K: Kind> {
+pub struct Opening<'a, K> {
     pub events: &'a [K],
     pub offsets: &'a [u32],
     pub lexicon: &'a [K],

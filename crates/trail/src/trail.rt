@@ -2,11 +2,10 @@ ghost use Rattle.std.specs.Prelude.{◌≡◌, ℕ, ◌+◌, ◌<◌, ◌≤◌,
 ghost use Rattle.trail.specs.Levels.{Steps};
 
 use crate::level::{Head, MOST_LENGTH, Rows};
-use event::kind::Kind;
 
 /// A list of lexicon places that the trail stands at, and the levels of the list: level k lies in the rows from `bounds[k]` to `bounds[k + 1]`, and `head` is the head of the deepest.
 #[derive(Drop)]
-pub struct Trail<'a, K: Kind> {
+pub struct Trail<'a, K> {
     pub(crate) events: &'a [K],
     pub(crate) offsets: &'a [u32],
     pub(crate) lexicon: &'a [K],

@@ -32,9 +32,9 @@ loop-place-preserved g c =
     let p = take (i + 1 - i) (drop i xs) in
     let f = event_text order label ts in
     let first = vec_items c.append.new.text in
-    let is : c.support-of.result ≡ Ok (support order ts p) = answered (bundle_refusal (length c.args.events.now) c.args.offsets.now) (support order ts p) c.support-of.result c.requires c.support-of.ensures in
-    let n : c.in-Ok.support ≡ support order ts p = same_ok (support order ts p) c.in-Ok.support c.support-of.result is c.in-Ok.is in
-    let more : vec_items c.append-in-loop-place.new.text ≡ vec_items c.loop-place.text ++ pattern_text label c.in-Ok.support p = c.in-ok-append-2.ensures in
+    let is : c.support_of.result ≡ Ok (support order ts p) = answered (bundle_refusal (length c.args.events.now) c.args.offsets.now) (support order ts p) c.support_of.result c.requires c.support_of.ensures in
+    let n : c.in-Ok.support ≡ support order ts p = same_ok (support order ts p) c.in-Ok.support c.support_of.result is c.in-Ok.is in
+    let more : vec_items c.append-in-loop-place.new.text ≡ vec_items c.loop-place.text ++ pattern_text label c.in-Ok.support p = c.in_ok-append-2.ensures in
     let step = texts_more order label ts xs i (omega arith) in
     more
     ∙ ap (λ (k : ℕ). vec_items c.loop-place.text ++ pattern_text label k p) n
@@ -42,12 +42,12 @@ loop-place-preserved g c =
     ∙ append_assoc first (flat_map f (take i xs)) (pattern_text label (support order ts p) p)
     ∙ ap (λ (l : List ℕ). first ++ l) (sym step)
 
-pub loop-place-preserved-in-default : goal.loop-place-preserved-in-default
-loop-place-preserved-in-default g c =
+pub loop-place-preserved-in_default : goal.loop-place-preserved-in_default
+loop-place-preserved-in_default g c =
     let xs = c.args.lexicon.now in
     let i = c.loop-place.place in
     let n = support g.K.Kind.order (tapes c.args.events.now c.args.offsets.now) (take (i + 1 - i) (drop i xs)) in
-    absurd (c.in-default.not-Ok n (answered (bundle_refusal (length c.args.events.now) c.args.offsets.now) n c.support-of.result c.requires c.support-of.ensures))
+    absurd (c.in_default.not-Ok n (answered (bundle_refusal (length c.args.events.now) c.args.offsets.now) n c.support_of.result c.requires c.support_of.ensures))
 
 pub returns : goal.returns
 returns g c =
@@ -56,8 +56,8 @@ returns g c =
     let was = vec_items c.args.text.now in
     let query = c.args.query.now in
     let count = length c.args.events.now in
-    let head : vec_items c.append.new.text ≡ was ++ head_text c.saturating-sub.result count query.threshold query.longest = c.in-ok-append.ensures in
-    let less : c.saturating-sub.result ≡ length c.args.offsets.now - 1 = c.saturating-sub.ensures in
+    let head : vec_items c.append.new.text ≡ was ++ head_text c.saturating_sub.result count query.threshold query.longest = c.in_ok-append.ensures in
+    let less : c.saturating_sub.result ≡ length c.args.offsets.now - 1 = c.saturating_sub.ensures in
     c.loop-place.invariant
     ∙ ap (λ (l : List ℕ). vec_items c.append.new.text ++ l) (joined_all f xs c.loop-place.place (omega arith))
     ∙ ap (λ (l : List ℕ). l ++ flat_map f xs) (head ∙ ap (λ (k : ℕ). was ++ head_text k count query.threshold query.longest) less)

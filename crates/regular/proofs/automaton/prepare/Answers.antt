@@ -11,13 +11,13 @@ use Rattle.regular.proofs.automaton.prepare.Goals as goal
 
 pub returns : goal.returns
 returns c =
-    let v = c.in-ok-follow.follow in
+    let v = c.in_ok-follow.follow in
     let rows = c.follows.new.follow in
     let n = c.args.count in
     let root = c.args.root in
-    let zeros : vec_items v ≡ replicate n 0 = c.in-ok-follow.ensures.items-if-clones-equal (λ y h. h) in
-    let lent : c.deref-mut.result.now ≡ replicate n 0 = c.deref-mut.ensures.value ∙ zeros in
-    let wide : length c.deref-mut.result.now ≡ n = ap length lent ∙ length-replicate n 0 in
+    let zeros : vec_items v ≡ replicate n 0 = c.in_ok-follow.ensures.items_if_clones_equal (λ y h. h) in
+    let lent : c.deref_mut.result.now ≡ replicate n 0 = c.deref_mut.ensures.value ∙ zeros in
+    let wide : length c.deref_mut.result.now ≡ n = ap length lent ∙ length-replicate n 0 in
     let kept : length rows ≡ v.len = omega arith in
     let is : vec_items (with_items v rows) ≡ rows = with_items_is v rows kept in
     record {

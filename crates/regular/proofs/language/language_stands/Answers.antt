@@ -10,5 +10,5 @@ returns g c =
       taken = automaton_takes;
       stuck = automaton_sticks;
       labels = labels_taken g.K.Kind.order;
-      labels-stuck = labels_stick g.K.Kind.order g.met.K.Kind.alike_itself;
+      labels_stuck = labels_stick g.K.Kind.order g.met.K.Kind.alike_itself;
     }

@@ -15,8 +15,8 @@ loop-place-init g c =
 pub bounds-labels-place : goal.bounds-labels-place
 bounds-labels-place g c = c.requires.within c.lowest-place.result (c.loop-place.invariant.0 c.lowest-place.result c.lowest-place.ensures.has)
 
-pub offset-bounds-labels-place : goal.offset-bounds-labels-place
-offset-bounds-labels-place g c = let h = bounds-labels-place g c in omega arith
+pub offset_bounds-labels-place : goal.offset_bounds-labels-place
+offset_bounds-labels-place g c = let h = bounds-labels-place g c in omega arith
 
 pub index-requires : goal.index-requires
 index-requires g c =

@@ -5,8 +5,8 @@ use Rattle.search.proofs.Passed.{turned_out, turned_rare, turned_found, turned_c
 use Rattle.search.proofs.Walking.{same_more, same_answer, same_none}
 use Rattle.search.proofs.search.advance.Goals as goal
 
-pub returns-then-place-lexicon-length : goal.returns-then-place-lexicon-length
-returns-then-place-lexicon-length g c =
+pub returns-then-place-lexicon_length : goal.returns-then-place-lexicon_length
+returns-then-place-lexicon_length g c =
     let walk = c.args.walk.now in
     let after = c.leave.new.walk in
     let limits = limits_of walk c.args.need in
@@ -19,13 +19,13 @@ returns-then-place-lexicon-length g c =
       turned = λ _. turned_out limits (support_of g.K.Kind.order walk) (wants_of (g.F.Filter.wants c.args.filter.now) walk) (at walk) (at after) c.args.place c.leave.result all left.moved;
     }
 
-pub returns-in-default : goal.returns-in-default
-returns-in-default g c =
+pub returns-in_default : goal.returns-in_default
+returns-in_default g c =
     let walk = c.args.walk.now in
     let after = c.deeper.new.self in
     let place = c.args.place in
     let limits = limits_of walk c.args.need in
-    let e = c.in-default.ensures in
+    let e = c.in_default.ensures in
     let known : place < length (lexicon_of walk) = omega arith in
     record {
       same = e.same;

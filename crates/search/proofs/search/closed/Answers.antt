@@ -18,6 +18,6 @@ returns g c =
     let barren = g.F.Filter.barren filter in
     record {
       hopeless = λ t q b pattern w.
-          fruitless (lexicon_of walk) (g.F.Filter.wants filter) barren (g.F.Filter.fruitless filter) (at walk) q (ap barren (sym c.list.ensures) ∙ sym c.is-barren.ensures ∙ t) b pattern.2 w;
+          fruitless (lexicon_of walk) (g.F.Filter.wants filter) barren (g.F.Filter.fruitless filter) (at walk) q (ap barren (sym c.list.ensures) ∙ sym c.is_barren.ensures ∙ t) b pattern.2 w;
       short = λ f. omega (arith, c.depth.ensures.1);
     }

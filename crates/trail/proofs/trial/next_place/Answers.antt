@@ -17,7 +17,7 @@ short events offsets number fit =
     (λ (h : length offsets ≤ number + 1). omega (arith, ap length (tape_past events offsets number h)))
     (cases_lt (number + 1) (length offsets))
 
-pub overflow-cast-result : goal.overflow-cast-result
-overflow-cast-result g c =
-    let s = short c.args.events.now c.args.offsets.now c.args.tape (λ i. let f = c.type-inv.offsets i in omega arith) in
-    omega (arith, rw c.tape-at.ensures at c.in-Some.ensures.bound.1)
+pub overflow_cast-result : goal.overflow_cast-result
+overflow_cast-result g c =
+    let s = short c.args.events.now c.args.offsets.now c.args.tape (λ i. let f = c.type_inv.offsets i in omega arith) in
+    omega (arith, rw c.tape_at.ensures at c.in-Some.ensures.bound.1)

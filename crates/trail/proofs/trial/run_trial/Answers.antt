@@ -36,8 +36,8 @@ loop-k-preserved g c =
           ∙ sym (grown_more g.K.Kind.order (tapes c.args.events.now c.args.offsets.now) c.args.event.now c.args.rows.now old k number place (Some next) (inv.3.tapes (old.start + k) here) (inv.3.places (old.start + k) here) c.in-Some.ensures),
     )
 
-pub loop-k-preserved-in-default : goal.loop-k-preserved-in-default
-loop-k-preserved-in-default g c =
+pub loop-k-preserved-in_default : goal.loop-k-preserved-in_default
+loop-k-preserved-in_default g c =
     let inv = c.loop-k.invariant in
     let old = c.args.head.now in
     let rows = c.loop-k.rows in
@@ -51,7 +51,7 @@ loop-k-preserved-in-default g c =
       inv.3,
       inv.4
           ∙ sym (append-nil _)
-          ∙ sym (grown_more g.K.Kind.order (tapes c.args.events.now c.args.offsets.now) c.args.event.now c.args.rows.now old k number place None (inv.3.tapes (old.start + k) here) (inv.3.places (old.start + k) here) c.in-default.ensures),
+          ∙ sym (grown_more g.K.Kind.order (tapes c.args.events.now c.args.offsets.now) c.args.event.now c.args.rows.now old k number place None (inv.3.tapes (old.start + k) here) (inv.3.places (old.start + k) here) c.in_default.ensures),
     )
 
 pub returns-then-count-need : goal.returns-then-count-need

@@ -4,11 +4,19 @@ use Rattle.regular.specs.Trees.{tree}
 use Rattle.regular.proofs.Numbers.{numbered_test}
 use Rattle.regular.proofs.expression.Expression.new.Goals as goal
 
-pub invariant-of-result : goal.invariant-of-result
-invariant-of-result g c =
+pub invariant_of-result : goal.invariant_of-result
+invariant_of-result g c =
     let t = tree (vec_items c.args.table.nodes) c.args.root in
     let n = length (vec_items c.args.labels) in
     let a = numbered_test t 0 n c.requires.numbered in
-    let made : Made t n c.in-ok-automaton.automaton =
-    subst (λ (k : ℕ). Made t k c.in-ok-automaton.automaton) (c.len.ensures ∙ c.args.labels.ok.0) c.in-ok-automaton.ensures in
-    (a.0, (a.1 ∙ omega arith, (made.each, (made.firsts, (made.lasts, (made.empties, (made.follows, tt)))))))
+    let made : Made t n c.in_ok-automaton.automaton =
+    subst (λ (k : ℕ). Made t k c.in_ok-automaton.automaton) (c.len.ensures ∙ c.args.labels.ok.0) c.in_ok-automaton.ensures in
+    record {
+      ordered = a.0;
+      counted = a.1 ∙ omega arith;
+      each = made.each;
+      firsts = made.firsts;
+      lasts = made.lasts;
+      empties = made.empties;
+      follows = made.follows;
+    }

@@ -16,23 +16,21 @@ returns-then-depth-eq0 g c =
       sound = λ sound. sound;
     }
 
-pub invariant-of-self : goal.invariant-of-self
-invariant-of-self g c =
+pub invariant_of-self : goal.invariant_of-self
+invariant_of-self g c =
     let walk = c.args.self.now in
     let trail = walk.trail in
     let after = c.back.new.self in
     let e = c.back.ensures in
     let b = c.back.result in
-    let items : List g.row.K.Denot = walk.room.items in (
-      few_same trail after e.same walk.few,
-      (
-        walk.short,
-        (
-          omega (arith, fit_back trail after e.same b e.moved, walk.fit),
-          (walk.roomy, (spelled_back trail after e.same b items e.moved walk.spelled, tt)),
-        ),
-      ),
-    )
+    let items : List g.row.K.Denot = walk.room.items in
+    record {
+      few = few_same trail after e.same walk.few;
+      short = walk.short;
+      fit = omega (arith, fit_back trail after e.same b e.moved, walk.fit);
+      roomy = walk.roomy;
+      spelled = spelled_back trail after e.same b items e.moved walk.spelled;
+    }
 
 pub returns : goal.returns
 returns g c =

@@ -5,11 +5,11 @@ use Rattle.search.proofs.Tree.{length_snoc}
 use Rattle.search.proofs.Walking.{same_trail, stands_unmoved, few_same, spelled_deeper, counted, rare}
 use Rattle.search.proofs.walk.Walk.deeper.Goals as goal
 
-pub returns-in-default : goal.returns-in-default
-returns-in-default g c =
+pub returns-in_default : goal.returns-in_default
+returns-in_default g c =
     let walk = c.args.self.now in
     let trail = walk.trail in
-    let e = c.in-default.ensures in
+    let e = c.in_default.ensures in
     record {
       same = same_trail walk _ e.same (refl {a = walk.longest});
       moved = stands_unmoved trail c.deeper.new.self e.moved;
@@ -19,8 +19,8 @@ returns-in-default g c =
       sound = e.sound;
     }
 
-pub invariant-of-self-2 : goal.invariant-of-self-2
-invariant-of-self-2 g c =
+pub invariant_of-self-2 : goal.invariant_of-self-2
+invariant_of-self-2 g c =
     let walk = c.args.self.now in
     let trail = walk.trail in
     let after = c.deeper.new.self in
@@ -30,22 +30,14 @@ invariant-of-self-2 g c =
     let items : List g.row.K.Denot = walk.room.items in
     let roomy : 16 ≤ length items = walk.roomy in
     let at : d ≡ length (stands_at trail) = c.depth-depth.ensures.1 in
-    let fits : d < length items = omega (arith, c.requires.0, walk.short) in (
-      few_same trail after e.same walk.few,
-      (
-        walk.short,
-        (
-          omega (arith, ap length e.moved.stands, length_snoc (stands_at trail) c.args.place, c.requires.0),
-          (
-            simp length-set roomy,
-            (
-              spelled_deeper trail after e.same c.args.place c.args.need c.in-Some.count d items y e.moved at fits (c.index-lexicon-place.is ∙ ap (λ (r : Bor (List g.row.K.Denot)). get_or r.now c.args.place y) c.lexicon.ensures) walk.spelled,
-              tt,
-            ),
-          ),
-        ),
-      ),
-    )
+    let fits : d < length items = omega (arith, c.requires.0, walk.short) in
+    record {
+      few = few_same trail after e.same walk.few;
+      short = walk.short;
+      fit = omega (arith, ap length e.moved.stands, length_snoc (stands_at trail) c.args.place, c.requires.0);
+      roomy = simp length-set roomy;
+      spelled = spelled_deeper trail after e.same c.args.place c.args.need c.in-Some.count d items y e.moved at fits (c.index-lexicon-place.is ∙ ap (λ (r : Bor (List g.row.K.Denot)). get_or r.now c.args.place y) c.lexicon.ensures) walk.spelled;
+    }
 
 pub returns : goal.returns
 returns g c =

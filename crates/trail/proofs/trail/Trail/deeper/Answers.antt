@@ -10,12 +10,12 @@ use Rattle.trail.proofs.Stepping.{steps_more, known_more}
 use Rattle.trail.proofs.Sounding.{picked_one, deepened, sound_unmoved, sound_deeper, counts_grown}
 use Rattle.trail.proofs.trail.Trail.deeper.Goals as goal
 
-pub returns-in-default : goal.returns-in-default
-returns-in-default g c =
+pub returns-in_default : goal.returns-in_default
+returns-in_default g c =
     let trail = c.args.self.now in
     let order = g.K.Kind.order in
     let place = c.args.place in
-    let tried = c.in-default.ensures in
+    let tried = c.in_default.ensures in
     record {
       same = record { events = refl {a = trail.events}; offsets = refl {a = trail.offsets}; lexicon = refl {a = trail.lexicon} };
       moved = record { head = tried.moved; bounds = refl {a = trail.bounds}; list = refl {a = trail.list}; depth = refl {a = trail.depth}; rows = tried.kept };
@@ -27,29 +27,24 @@ returns-in-default g c =
       sound = sound_unmoved order trail _ (record { events = refl {a = trail.events}; offsets = refl {a = trail.offsets}; lexicon = refl {a = trail.lexicon} }) (record { head = tried.moved; bounds = refl {a = trail.bounds}; list = refl {a = trail.list}; depth = refl {a = trail.depth}; rows = tried.kept });
     }
 
-pub invariant-of-self-2 : goal.invariant-of-self-2
-invariant-of-self-2 g c =
+pub invariant_of-self-2 : goal.invariant_of-self-2
+invariant_of-self-2 g c =
     let trail = c.args.self.now in
     let d = trail.depth in
-    let next = c.run-trial.new.head in
+    let next = c.run_trial.new.head in
     let tried = c.in-Some.ensures in
     let start : next.start ≡ end trail.head = ap (λ (h : Head). h.start) tried.moved in
     let count : next.count ≡ c.in-Some.count = ap (λ (h : Head). h.count) tried.moved in
     let room : d + 1 + 1 < length trail.bounds = search rules in
     let step = trail.steps d (omega arith) in
-    let ne : d + 1 ≢ d + 1 + 1 = omega arith in (
-      omega arith,
-      (
-        steps_more trail.bounds d (next.start + next.count) room trail.steps (omega (arith, trail.ends)) (omega (arith, trail.ends, trail.starts, step.1, tried.laid.0)),
-        (
-          start ∙ trail.ends ∙ sym (get_or-set_other trail.bounds (d + 1 + 1) (d + 1) (next.start + next.count) 0 ne),
-          (
-            sym (get_or-set_same trail.bounds (d + 1 + 1) (next.start + next.count) 0 room),
-            (known_more trail.list d c.args.place (length trail.lexicon.now) (search rules) trail.known (omega arith), tt),
-          ),
-        ),
-      ),
-    )
+    let ne : d + 1 ≢ d + 1 + 1 = omega arith in
+    record {
+      short = omega arith;
+      steps = steps_more trail.bounds d (next.start + next.count) room trail.steps (omega (arith, trail.ends)) (omega (arith, trail.ends, trail.starts, step.1, tried.laid.0));
+      starts = start ∙ trail.ends ∙ sym (get_or-set_other trail.bounds (d + 1 + 1) (d + 1) (next.start + next.count) 0 ne);
+      ends = sym (get_or-set_same trail.bounds (d + 1 + 1) (next.start + next.count) 0 room);
+      known = known_more trail.list d c.args.place (length trail.lexicon.now) (search rules) trail.known (omega arith);
+    }
 
 pub returns : goal.returns
 returns g c =
