@@ -1,6 +1,6 @@
 ghost use Rattle.std.specs.Prelude.{◌≡◌, ◌+◌, ◌<◌, ◌≤◌, length, MatchResult};
 ghost use Rattle.regular.specs.Trees.{Grown};
-ghost use Rattle.grammar.specs.Grammar.{expression as an-expression, term as a-term, factor as a-factor, atom as an-atom};
+ghost use Rattle.grammar.specs.Grammar.{expression as an_expression, term as a_term, factor as a_factor, atom as an_atom};
 ghost use Rattle.grammar.specs.Readings.{Gives, Refuses, repeat_of, Whole, NotWhole};
 ghost use Rattle.grammar.specs.Stands.{GrammarStands};
 
@@ -32,7 +32,7 @@ struct Part {
 fn expression(reader: &mut Reader, marks: &[Mark], at: usize, depth: u8) -> Result<Part, ReadFault>
     requires { at ≤ length marks.now }
     ensures grown { Grown reader.old.table.nodes.items reader.new.table.nodes.items }
-    ensures gives { MatchResult result (λ p. Gives marks.now an-expression depth at reader.old.leaves reader.new.leaves reader.new.table.nodes.items p.node p.past) (λ f. Refuses marks.now depth at reader.old.leaves f) }
+    ensures gives { MatchResult result (λ p. Gives marks.now an_expression depth at reader.old.leaves reader.new.leaves reader.new.table.nodes.items p.node p.past) (λ f. Refuses marks.now depth at reader.old.leaves f) }
 {
     let left = term(reader, marks, at, depth)?;
     if left.past < marks.len() {
@@ -53,7 +53,7 @@ fn expression(reader: &mut Reader, marks: &[Mark], at: usize, depth: u8) -> Resu
 fn term(reader: &mut Reader, marks: &[Mark], at: usize, depth: u8) -> Result<Part, ReadFault>
     requires { at ≤ length marks.now }
     ensures grown { Grown reader.old.table.nodes.items reader.new.table.nodes.items }
-    ensures gives { MatchResult result (λ p. Gives marks.now a-term depth at reader.old.leaves reader.new.leaves reader.new.table.nodes.items p.node p.past) (λ f. Refuses marks.now depth at reader.old.leaves f) }
+    ensures gives { MatchResult result (λ p. Gives marks.now a_term depth at reader.old.leaves reader.new.leaves reader.new.table.nodes.items p.node p.past) (λ f. Refuses marks.now depth at reader.old.leaves f) }
 {
     let left = factor(reader, marks, at, depth)?;
     if left.past < marks.len() {
@@ -74,7 +74,7 @@ fn term(reader: &mut Reader, marks: &[Mark], at: usize, depth: u8) -> Result<Par
 fn factor(reader: &mut Reader, marks: &[Mark], at: usize, depth: u8) -> Result<Part, ReadFault>
     requires { at ≤ length marks.now }
     ensures grown { Grown reader.old.table.nodes.items reader.new.table.nodes.items }
-    ensures gives { MatchResult result (λ p. Gives marks.now a-factor depth at reader.old.leaves reader.new.leaves reader.new.table.nodes.items p.node p.past) (λ f. Refuses marks.now depth at reader.old.leaves f) }
+    ensures gives { MatchResult result (λ p. Gives marks.now a_factor depth at reader.old.leaves reader.new.leaves reader.new.table.nodes.items p.node p.past) (λ f. Refuses marks.now depth at reader.old.leaves f) }
 {
     let first = atom(reader, marks, at, depth)?;
     let mut node = first.node;
@@ -106,7 +106,7 @@ fn repeat(mark: Mark, node: usize) -> Option<Node>
 fn atom(reader: &mut Reader, marks: &[Mark], at: usize, depth: u8) -> Result<Part, ReadFault>
     requires { at ≤ length marks.now }
     ensures grown { Grown reader.old.table.nodes.items reader.new.table.nodes.items }
-    ensures gives { MatchResult result (λ p. Gives marks.now an-atom depth at reader.old.leaves reader.new.leaves reader.new.table.nodes.items p.node p.past) (λ f. Refuses marks.now depth at reader.old.leaves f) }
+    ensures gives { MatchResult result (λ p. Gives marks.now an_atom depth at reader.old.leaves reader.new.leaves reader.new.table.nodes.items p.node p.past) (λ f. Refuses marks.now depth at reader.old.leaves f) }
 {
     if at >= marks.len() {
         return Err(ReadFault::Mark(at));

@@ -13,10 +13,10 @@ pub atom-returns-then-at-marks : goal.atom-returns-then-at-marks
 atom-returns-then-at-marks t c =
     record { grown = stays _; gives = fault_end c.args.marks.now c.args.at (state c.args.depth c.args.reader.now.leaves true) c.if-at-marks.true refl }
 
-pub atom-returns-in_err-node : goal.atom-returns-in_err-node
-atom-returns-in_err-node t c =
+pub atom-returns-in_err-node-in-Leaf : goal.atom-returns-in_err-node-in-Leaf
+atom-returns-in_err-node-in-Leaf t c =
     let p = err_from_is_err_and c.from_residual.result c.from_residual.ensures.1 in
-    let h = c.in_err-node.ensures in
+    let h = c.in_err-node-in-Leaf.ensures in
     let o : At c.args.marks.now c.args.at Leaf = record { inside = c.if-at-marks.false; is = c.in-Leaf.is } in
     record { grown = h.grown; gives = rw (p.1, p.2) (refuses_leaf c.args.depth c.args.reader.now.leaves o _ h.added) }
 
@@ -25,37 +25,37 @@ atom-returns-then-depth-ge-MOST_OPEN t c =
     let o : At c.args.marks.now c.args.at Open = record { inside = c.if-at-marks.false; is = c.in-Open.is } in
     record { grown = stays _; gives = refuses_open c.args.depth c.args.reader.now.leaves o c.if-depth-ge-MOST_OPEN.true }
 
-pub atom-returns-in_err-inner : goal.atom-returns-in_err-inner
-atom-returns-in_err-inner t c =
-    let p = err_from_is_err_and c.from_residual-in_err-inner.result c.from_residual-in_err-inner.ensures.1 in
-    let h = c.in_err-inner.ensures in
+pub atom-returns-in_err-inner-in-Open : goal.atom-returns-in_err-inner-in-Open
+atom-returns-in_err-inner-in-Open t c =
+    let p = err_from_is_err_and c.from_residual-in_err-inner-in-Open.result c.from_residual-in_err-inner-in-Open.ensures.1 in
+    let h = c.in_err-inner-in-Open.ensures in
     let o : At c.args.marks.now c.args.at Open = record { inside = c.if-at-marks.false; is = c.in-Open.is } in
     let k = c.args.reader.now.leaves in
     record { grown = h.grown; gives = rw (p.1, p.2) (refuses_on c.args.marks.now c.args.depth c.args.at k (c.args.depth + 1) (c.args.at + 1) k (fault_open c.args.depth k o c.if-depth-ge-MOST_OPEN.false) _ h.gives) }
 
 pub atom-returns-then-inner-marks : goal.atom-returns-then-inner-marks
 atom-returns-then-inner-marks t c =
-    let h = c.in_ok-inner.ensures in
+    let h = c.in_ok-inner-in-Open.ensures in
     let o : At c.args.marks.now c.args.at Open = record { inside = c.if-at-marks.false; is = c.in-Open.is } in
     record { grown = h.grown; gives = unclosed o c.if-depth-ge-MOST_OPEN.false h.gives (λ b. absurd (let l = c.if-inner-marks.true in omega arith)) }
 
 pub atom-returns-in_default-marks : goal.atom-returns-in_default-marks
 atom-returns-in_default-marks t c =
-    let h = c.in_ok-inner.ensures in
+    let h = c.in_ok-inner-in-Open.ensures in
     let o : At c.args.marks.now c.args.at Open = record { inside = c.if-at-marks.false; is = c.in-Open.is } in
     record { grown = h.grown; gives = unclosed o c.if-depth-ge-MOST_OPEN.false h.gives (λ b. c.in_default-marks.not-Close) }
 
-pub atom-returns-in_ok-node : goal.atom-returns-in_ok-node
-atom-returns-in_ok-node t c =
-    let h = c.in_ok-node.ensures in
+pub atom-returns-in_ok-node-in-Leaf : goal.atom-returns-in_ok-node-in-Leaf
+atom-returns-in_ok-node-in-Leaf t c =
+    let h = c.in_ok-node-in-Leaf.ensures in
     let o : At c.args.marks.now c.args.at Leaf = record { inside = c.if-at-marks.false; is = c.in-Leaf.is } in
     record { grown = h.grown; gives = gives_leaf c.args.depth c.leaf.new.self.table.falls o h.added }
 
 pub atom-returns-in-Close : goal.atom-returns-in-Close
 atom-returns-in-Close t c =
-    let h = c.in_ok-inner.ensures in
+    let h = c.in_ok-inner-in-Open.ensures in
     let o : At c.args.marks.now c.args.at Open = record { inside = c.if-at-marks.false; is = c.in-Open.is } in
-    let b : At c.args.marks.now c.in_ok-inner.inner.past Close = record { inside = c.if-inner-marks.false; is = c.in-Close.is } in
+    let b : At c.args.marks.now c.in_ok-inner-in-Open.inner.past Close = record { inside = c.if-inner-marks.false; is = c.in-Close.is } in
     record { grown = h.grown; gives = gives_bracket o c.if-depth-ge-MOST_OPEN.false h.gives b }
 
 pub atom-returns-in_default : goal.atom-returns-in_default

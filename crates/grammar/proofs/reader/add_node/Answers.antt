@@ -8,4 +8,7 @@ pub invariant_of-table : goal.invariant_of-table
 invariant_of-table c =
     let xs = vec_items c.args.table.now.nodes in
     let x = c.args.node in
-    (each_push (λ n v. reach v ≤ n) _ xs _ x (Leaf 0) c.push.ensures.items c.args.table.now.falls (search rules), (each_push (λ n v. place v < 60) _ xs _ x (Leaf 0) c.push.ensures.items c.args.table.now.placed c.requires.small, tt))
+    record {
+      falls = each_push (λ n v. reach v ≤ n) _ xs _ x (Leaf 0) c.push.ensures.items c.args.table.now.falls (search rules);
+      placed = each_push (λ n v. place v < 60) _ xs _ x (Leaf 0) c.push.ensures.items c.args.table.now.placed c.requires.small;
+    }

@@ -11,6 +11,6 @@ returns c =
     let same : head_text tapes events c.into.result c.into-2.result ≡ head_text tapes events c.args.query.now.threshold c.args.query.now.longest =
     ap (λ (n : ℕ). head_text tapes events n c.into-2.result) c.into.ensures ∙ ap (head_text tapes events c.args.query.now.threshold) c.into-2.ensures in
     record {
-      answer = c.write-line.ensures.answer ∙ ap (λ (l : List ℕ). written (length l) (length row)) same;
-      after = c.write-line.ensures.after ∙ ap (λ (l : List ℕ). laid l row) same;
+      answer = c.write_line.ensures.answer ∙ ap (λ (l : List ℕ). written (length l) (length row)) same;
+      after = c.write_line.ensures.after ∙ ap (λ (l : List ℕ). laid l row) same;
     }

@@ -8,7 +8,7 @@ loop-call-preserved g c =
     let inv = c.loop-call.invariant in
     let step = c.send.ensures inv.0 inv.2 in (
       step.said ∷ inv.0,
-      told_more w c.args.calls.now c.loop-call.call-index _ inv.0 inv.1 c.call-item.result c.send.result step.said _ c.loop-call-test.true c.call-item.is c.in-ok-push.ensures.items step.asks step.gets,
+      told_more w c.args.calls.now c.loop-call.call-index _ inv.0 inv.1 c.call-item.result c.send.result step.said _ c.loop-call-test.true c.call-item.is c.in_ok-push.ensures.items step.asks step.gets,
       step.stands,
       ask_more w step.said inv.0 c.call-item.result step.asks inv.3,
     )

@@ -8,4 +8,4 @@ accepted None = refl
 accepted (Some f) = refl
 
 pub returns : goal.returns
-returns g c = c.is-ok.ensures.value ∙ ap (λ (r : Result (Unit {0}) Refusal). is_ok r) c.open.ensures.answer ∙ accepted _
+returns g c = c.is_ok.ensures.value ∙ ap (λ (r : Result (Unit {0}) Refusal). is_ok r) c.open.ensures.answer ∙ accepted _

@@ -7,6 +7,6 @@ pub returns-in-Head : goal.returns-in-Head
 returns-in-Head g c =
     let same = sym (ap (text_of g.K.Kind.label) c.in-Head.is) in
     record {
-      answer = c.write-head.ensures.answer ∙ ap (λ (l : List ℕ). written (length l) (length c.args.row.now)) same;
-      after = c.write-head.ensures.after ∙ ap (λ (l : List ℕ). laid l c.args.row.now) same;
+      answer = c.write_head.ensures.answer ∙ ap (λ (l : List ℕ). written (length l) (length c.args.row.now)) same;
+      after = c.write_head.ensures.after ∙ ap (λ (l : List ℕ). laid l c.args.row.now) same;
     }

@@ -18,19 +18,19 @@ use Rattle.session.proofs.Refusing.{exits, refused_by, passed_by, first_refuses,
 use Rattle.session.proofs.Standing.{follows, refuses, held, next_refused, open_over, room_on, room_off, same_over, same_support, same_wants, front_of}
 use Rattle.session.proofs.session.Session.next.Goals as goal
 
-pub returns-in-err-hear : goal.returns-in-err-hear
-returns-in-err-hear g c =
+pub returns-in_err-hear : goal.returns-in_err-hear
+returns-in_err-hear g c =
     let s = c.args.self.now in
     let w = g.F.Filter.wants c.args.filter.now in
     let row = c.args.row.now in
     let m = length row in
-    let f = c.in-err-hear.field-0.0 in
-    let e = first_refuses (closed s.stage) (unless (leb s.walk.longest m) Room ∷ []) f (refused_by (closed s.stage) tt _ c.hear.ensures f c.in-err-hear.was) in
-    let out = exits c.from-residual.result f c.from-residual.ensures.1 in
+    let f = c.in_err-hear.field-0.0 in
+    let e = first_refuses (closed s.stage) (unless (leb s.walk.longest m) Room ∷ []) f (refused_by (closed s.stage) tt _ c.hear.ensures f c.in_err-hear.was) in
+    let out = exits c.from_residual.result f c.from_residual.ensures.1 in
     record {
       refused = ap refusal_in out ∙ sym e;
       after = stays _ s _ f out;
-      row-after = sym (ap (λ (r : Result _ Refusal). row_after r (at s.walk) row) out);
+      row_after = sym (ap (λ (r : Result _ Refusal). row_after r (at s.walk) row) out);
       means = λ sound. stays _ s _ f out;
       extends =
           subst (λ (r : Result _ Refusal). Extends g.K.Kind.order (law.Next w m) (says_next r row) s s) (sym out)
@@ -42,12 +42,12 @@ returns-then-row-longest g c =
     let s = c.args.self.now in
     let w = g.F.Filter.wants c.args.filter.now in
     let m = length c.args.row.now in
-    let on = passed_by (closed s.stage) tt _ c.hear.ensures _ c.in-ok-hear.was in
+    let on = passed_by (closed s.stage) tt _ c.hear.ensures _ c.in_ok-hear.was in
     let e = room_off s m on (omega (arith, c.longest.ensures, c.if-row-longest.true)) in
     record {
       refused = sym e;
       after = refl;
-      row-after = refl;
+      row_after = refl;
       means = λ sound. refl;
       extends = refuses g.K.Kind.order s (law.Next w m) Room (λ h st. next_refused g.K.Kind.order s h st w m ∙ e);
     }
@@ -57,7 +57,7 @@ returns-in-Ended g c =
     let s = c.args.self.now in
     let w = g.F.Filter.wants c.args.filter.now in
     let m = length c.args.row.now in
-    let on = passed_by (closed s.stage) tt _ c.hear.ensures _ c.in-ok-hear.was in
+    let on = passed_by (closed s.stage) tt _ c.hear.ensures _ c.in_ok-hear.was in
     let e = room_on s m on (omega (arith, c.longest.ensures, c.if-row-longest.false)) in
     record {
       refused = sym e;
@@ -71,7 +71,7 @@ returns-in-Ended g c =
         },
         λ n. refl,
       );
-      row-after = refl;
+      row_after = refl;
       means = λ sound. (sound, λ n. absurd (n c.in-Ended.is));
       extends = λ h st.
           follows g.K.Kind.order s s h st (law.Ended w m)
@@ -87,22 +87,22 @@ returns-in-Ended g c =
           st.sound;
     }
 
-pub returns-in-default-next-pattern : goal.returns-in-default-next-pattern
-returns-in-default-next-pattern g c =
+pub returns-in_default-next_pattern : goal.returns-in_default-next_pattern
+returns-in_default-next_pattern g c =
     let order = g.K.Kind.order in
     let s = c.args.self.now in
-    let walk = c.next-pattern.new.walk in
+    let walk = c.next_pattern.new.walk in
     let w = g.F.Filter.wants c.args.filter.now in
     let m = length c.args.row.now in
-    let on = passed_by (closed s.stage) tt _ c.hear.ensures _ c.in-ok-hear.was in
+    let on = passed_by (closed s.stage) tt _ c.hear.ensures _ c.in_ok-hear.was in
     let e = room_on s m on (omega (arith, c.longest.ensures, c.if-row-longest.false)) in
-    let going = c.in-default.not-Ended in
-    let same = c.in-default-next-pattern.ensures.same in
-    let finds = c.in-default-next-pattern.ensures.finds in
+    let going = c.in_default.not-Ended in
+    let same = c.in_default-next_pattern.ensures.same in
+    let finds = c.in_default-next_pattern.ensures.finds in
     record {
       refused = sym e;
       after = (record { rows = same; stage = refl; threshold = refl; skipped = refl; count = refl }, λ n. absurd (going n));
-      row-after = refl;
+      row_after = refl;
       means = λ sound. ((finds sound).0, λ n. (finds sound).1);
       extends = λ h st.
           let o = open_over order s h st on in
@@ -128,24 +128,24 @@ pub returns : goal.returns
 returns g c =
     let order = g.K.Kind.order in
     let s = c.args.self.now in
-    let walk = c.next-pattern.new.walk in
+    let walk = c.next_pattern.new.walk in
     let w = g.F.Filter.wants c.args.filter.now in
     let row = c.args.row.now in
     let m = length row in
     let n = c.in-Some.support in
-    let on = passed_by (closed s.stage) tt _ c.hear.ensures _ c.in-ok-hear.was in
+    let on = passed_by (closed s.stage) tt _ c.hear.ensures _ c.in_ok-hear.was in
     let e = room_on s m on (omega (arith, c.longest.ensures, c.if-row-longest.false)) in
-    let going = c.in-default.not-Ended in
+    let going = c.in_default.not-Ended in
     let same = c.in-Some.ensures.same in
     let finds = c.in-Some.ensures.finds in
     let list = c.places.ensures.list in
-    let laid = c.lay-places-length.ensures.laid ∙ ap (λ (p : List ℕ). p ++ drop (length p) row) list in
-    let count = c.lay-places-length.ensures.count ∙ ap length list in
-    let t : Session _ = record { walk = walk; stage = stages.Listing; threshold = s.threshold; skipped = false; count = c.saturating-add-self.result } in
+    let laid = c.lay_places-length.ensures.laid ∙ ap (λ (p : List ℕ). p ++ drop (length p) row) list in
+    let count = c.lay_places-length.ensures.count ∙ ap length list in
+    let t : Session _ = record { walk = walk; stage = stages.Listing; threshold = s.threshold; skipped = false; count = c.saturating_add-self.result } in
     record {
       refused = sym e;
-      after = (record { rows = same; stage = refl; threshold = refl; skipped = refl; count = omega (arith, c.saturating-add-self.ensures) }, count);
-      row-after = laid;
+      after = (record { rows = same; stage = refl; threshold = refl; skipped = refl; count = omega (arith, c.saturating_add-self.ensures) }, count);
+      row_after = laid;
       means = λ sound. ((finds sound).0, λ n. (finds sound).1);
       extends = λ h st.
           let o = open_over order s h st on in
@@ -164,7 +164,7 @@ returns g c =
             latest = λ x. refl;
             skipped = λ x. refl;
             threshold = st.remembers.threshold;
-            count = omega (arith, c.saturating-add-self.ensures, st.remembers.count);
+            count = omega (arith, c.saturating_add-self.ensures, st.remembers.count);
           })
           (finds st.sound).0);
     }

@@ -1,4 +1,4 @@
-use Rattle.std.proofs.Common.{◌≡◌, ℕ, List, Option, Result, sym, refl, ap, ◌∙◌, subst, MutBor}
+use Rattle.std.proofs.Common.{◌≡◌, ℕ, List, Option, Result, sym, refl, ap, ◌∙◌, subst, Bor}
 use Rattle.event.specs.declared.refusal.Refusal.{Refusal}
 use Rattle.law.specs.Openings.{opening_refusal}
 use Rattle.law.specs.Transcripts as law
@@ -13,16 +13,16 @@ use Rattle.session.proofs.session.Session.open.Goals as goal
 pub open-requires : goal.open-requires
 open-requires g c =
     let o = opening_of c.args.opening in
-    let f = fits g.K.Kind.order o (passed_by (opening_refusal g.K.Kind.order o) tt _ c.check-opening.ensures _ c.in-ok-check-opening.was) in
+    let f = fits g.K.Kind.order o (passed_by (opening_refusal g.K.Kind.order o) tt _ c.check_opening.ensures _ c.in_ok-check_opening.was) in
     (f.offsets, (f.tapes, (f.lexicon, f.longest)))
 
-pub returns-in-err-check-opening : goal.returns-in-err-check-opening
-returns-in-err-check-opening g c =
+pub returns-in_err-check_opening : goal.returns-in_err-check_opening
+returns-in_err-check_opening g c =
     let s = c.args.self.now in
     let o = opening_of c.args.opening in
-    let f = c.in-err-check-opening.field-0.0 in
-    let e = refused_by (opening_refusal g.K.Kind.order o) tt _ c.check-opening.ensures f c.in-err-check-opening.was in
-    let out = exits c.from-residual-in-err-check-opening.result f c.from-residual-in-err-check-opening.ensures.1 in
+    let f = c.in_err-check_opening.field-0.0 in
+    let e = refused_by (opening_refusal g.K.Kind.order o) tt _ c.check_opening.ensures f c.in_err-check_opening.was in
+    let out = exits c.from_residual-in_err-check_opening.result f c.from_residual-in_err-check_opening.ensures.1 in
     record {
       answer = out ∙ sym (ap (λ (x : Option Refusal). or_refused x tt) e);
       after = stays _ s _ f out;
@@ -35,7 +35,7 @@ pub returns : goal.returns
 returns g c =
     let s = c.args.self.now in
     let o = opening_of c.args.opening in
-    let e = passed_by (opening_refusal g.K.Kind.order o) tt _ c.check-opening.ensures _ c.in-ok-check-opening.was in
+    let e = passed_by (opening_refusal g.K.Kind.order o) tt _ c.check_opening.ensures _ c.in_ok-check_opening.was in
     let made = c.open.ensures.opened in
     record {
       answer = sym (ap (λ (x : Option Refusal). or_refused x tt) e);
@@ -60,9 +60,9 @@ returns g c =
               o,
               refl,
               record {
-                events = ap (λ (r : MutBor (List _)). r.now) made.events_are;
-                offsets = ap (λ (r : MutBor (List ℕ)). r.now) made.offsets_are;
-                lexicon = ap (λ (r : MutBor (List _)). r.now) made.lexicon_is;
+                events = ap (λ (r : Bor (List _)). r.now) made.events_are;
+                offsets = ap (λ (r : Bor (List ℕ)). r.now) made.offsets_are;
+                lexicon = ap (λ (r : Bor (List _)). r.now) made.lexicon_is;
                 longest = made.longest_is;
               },
             );

@@ -11,13 +11,13 @@ use Rattle.session.proofs.Refusing.{exits, refused_by, passed_by, first_refuses,
 use Rattle.session.proofs.Standing.{follows, refuses, raise_refused}
 use Rattle.session.proofs.session.Session.raise.Goals as goal
 
-pub returns-in-err-hear : goal.returns-in-err-hear
-returns-in-err-hear g c =
+pub returns-in_err-hear : goal.returns-in_err-hear
+returns-in_err-hear g c =
     let s = c.args.self.now in
     let t = c.args.threshold in
-    let f = c.in-err-hear.field-0.0 in
-    let e = first_refuses (stage_refusal s.stage asks.Raise) (unless (may_raise s.threshold t) Threshold ∷ []) f (refused_by (stage_refusal s.stage asks.Raise) tt _ c.hear.ensures f c.in-err-hear.was) in
-    let out = exits c.from-residual.result f c.from-residual.ensures.1 in
+    let f = c.in_err-hear.field-0.0 in
+    let e = first_refuses (stage_refusal s.stage asks.Raise) (unless (may_raise s.threshold t) Threshold ∷ []) f (refused_by (stage_refusal s.stage asks.Raise) tt _ c.hear.ensures f c.in_err-hear.was) in
+    let out = exits c.from_residual.result f c.from_residual.ensures.1 in
     record {
       answer = out ∙ sym (ap (λ (o : Option Refusal). or_refused o tt) e);
       after = stays _ s _ f out;
@@ -26,12 +26,12 @@ returns-in-err-hear g c =
           (refuses g.K.Kind.order s (law.Raise t) f (λ h st. raise_refused g.K.Kind.order s h st t ∙ e));
     }
 
-pub returns-then-not-may-raise : goal.returns-then-not-may-raise
-returns-then-not-may-raise g c =
+pub returns-then-not-may_raise : goal.returns-then-not-may_raise
+returns-then-not-may_raise g c =
     let s = c.args.self.now in
     let t = c.args.threshold in
-    let on = passed_by (stage_refusal s.stage asks.Raise) tt _ c.hear.ensures _ c.in-ok-hear.was in
-    let e = first_passes (stage_refusal s.stage asks.Raise) (unless (may_raise s.threshold t) Threshold ∷ []) on ∙ last_decides (unless (may_raise s.threshold t) Threshold) ∙ ap (λ (b : Bool). unless b Threshold) (sym c.if-not-may-raise.ensures) in
+    let on = passed_by (stage_refusal s.stage asks.Raise) tt _ c.hear.ensures _ c.in_ok-hear.was in
+    let e = first_passes (stage_refusal s.stage asks.Raise) (unless (may_raise s.threshold t) Threshold ∷ []) on ∙ last_decides (unless (may_raise s.threshold t) Threshold) ∙ ap (λ (b : Bool). unless b Threshold) (sym c.if-not-may_raise.ensures) in
     record {
       answer = sym (ap (λ (o : Option Refusal). or_refused o tt) e);
       after = refl;
@@ -42,8 +42,8 @@ pub returns : goal.returns
 returns g c =
     let s = c.args.self.now in
     let t = c.args.threshold in
-    let on = passed_by (stage_refusal s.stage asks.Raise) tt _ c.hear.ensures _ c.in-ok-hear.was in
-    let e = first_passes (stage_refusal s.stage asks.Raise) (unless (may_raise s.threshold t) Threshold ∷ []) on ∙ last_decides (unless (may_raise s.threshold t) Threshold) ∙ ap (λ (b : Bool). unless b Threshold) (sym c.if-not-may-raise.ensures) in
+    let on = passed_by (stage_refusal s.stage asks.Raise) tt _ c.hear.ensures _ c.in_ok-hear.was in
+    let e = first_passes (stage_refusal s.stage asks.Raise) (unless (may_raise s.threshold t) Threshold ∷ []) on ∙ last_decides (unless (may_raise s.threshold t) Threshold) ∙ ap (λ (b : Bool). unless b Threshold) (sym c.if-not-may_raise.ensures) in
     record {
       answer = sym (ap (λ (o : Option Refusal). or_refused o tt) e);
       after = record { walk = refl; stage = refl; threshold = refl; skipped = refl; count = refl };

@@ -10,12 +10,12 @@ use Rattle.session.proofs.Refusing.{exits, refused_by, passed_by, stays}
 use Rattle.session.proofs.Standing.{follows, refuses, by_stage}
 use Rattle.session.proofs.session.Session.skip.Goals as goal
 
-pub returns-in-err-hear : goal.returns-in-err-hear
-returns-in-err-hear g c =
+pub returns-in_err-hear : goal.returns-in_err-hear
+returns-in_err-hear g c =
     let s = c.args.self.now in
-    let f = c.in-err-hear.field-0.0 in
-    let e = refused_by (stage_refusal s.stage asks.Skip) tt _ c.hear.ensures f c.in-err-hear.was in
-    let out = exits c.from-residual.result f c.from-residual.ensures.1 in
+    let f = c.in_err-hear.field-0.0 in
+    let e = refused_by (stage_refusal s.stage asks.Skip) tt _ c.hear.ensures f c.in_err-hear.was in
+    let out = exits c.from_residual.result f c.from_residual.ensures.1 in
     record {
       answer = out ∙ sym (ap (λ (o : Option Refusal). or_refused o tt) e);
       after = stays _ s _ f out;
@@ -27,7 +27,7 @@ returns-in-err-hear g c =
 pub returns : goal.returns
 returns g c =
     let s = c.args.self.now in
-    let e = passed_by (stage_refusal s.stage asks.Skip) tt _ c.hear.ensures _ c.in-ok-hear.was in
+    let e = passed_by (stage_refusal s.stage asks.Skip) tt _ c.hear.ensures _ c.in_ok-hear.was in
     record {
       answer = sym (ap (λ (o : Option Refusal). or_refused o tt) e);
       after = record { walk = refl; stage = refl; threshold = refl; skipped = refl; count = refl };
