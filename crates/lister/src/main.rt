@@ -6,6 +6,7 @@ use listing::list::reply_to;
 use std::alloc::AllocError;
 use std::io;
 use std::io::{Read, Write};
+use std::process::ExitCode;
 
 /// Why the program ends with status 1.
 #[derive(Drop)]
@@ -46,12 +47,20 @@ fn run(rt: &HostRuntime) -> Result<(), Failure> {
     Ok(())
 }
 
-fn main(rt: HostRuntime) -> Result<(), Failure> {
-    let ended = run(&rt);
-    match &ended {
-        Err(Failure::Memory) => eprintln!(rt; "lister: no memory")?,
-        Err(Failure::Io(error)) => eprintln!(rt; "lister: {error}")?,
-        _ => {}
+// Says on standard error why there is no list, where the answer does not.
+fn report(rt: &HostRuntime, failure: &Failure) -> io::Result<()> {
+    match failure {
+        Failure::Refused => Ok(()),
+        Failure::Memory => eprintln!(rt; "lister: no memory"),
+        Failure::Io(error) => eprintln!(rt; "lister: {error}"),
     }
-    ended
+}
+
+fn main(rt: HostRuntime) -> ExitCode {
+    let Err(failure) = run(&rt) else {
+        return ExitCode::SUCCESS;
+    };
+    // where even this cannot be written, the status says it
+    let _ = report(&rt, &failure);
+    ExitCode::FAILURE
 }

@@ -12,9 +12,9 @@ loop-span-preserved g c =
     let i = c.loop-span.span-index in
     let labelled = g.K.Kind.labelled in
     let f = λ (s : Span). mark_of labelled (spanned c.args.text.now s) in
-    c.in-ok-push.ensures.items
-    ∙ ap (λ (l : List Mark). l ++ (c.mark-of.result ∷ [])) c.loop-span.invariant
-    ∙ ap (λ (m : Mark). map f (take i spans) ++ (m ∷ [])) (c.mark-of.ensures ∙ ap (mark_of labelled) c.part.ensures)
+    c.in_ok-push.ensures.items
+    ∙ ap (λ (l : List Mark). l ++ (c.mark_of.result ∷ [])) c.loop-span.invariant
+    ∙ ap (λ (m : Mark). map f (take i spans) ++ (m ∷ [])) (c.mark_of.ensures ∙ ap (mark_of labelled) c.part.ensures)
     ∙ sym (map_push f (take i spans) (get_or spans i (span 0 0)))
     ∙ ap (map f) (sym (take_more spans i (span 0 0) c.loop-span-test.true))
 

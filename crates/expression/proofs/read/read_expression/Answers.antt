@@ -17,14 +17,14 @@ new-requires g c =
     let labelled = g.K.Kind.labelled in
     let text = c.args.text.now in
     let whole = c.in-Ok.ensures in
-    let spans = vec_items c.in-ok-spans.spans in
+    let spans = vec_items c.in_ok-spans.spans in
     let f = λ (s : Span). leaf_list (leaf_of labelled (spanned text s)) in
     let m = λ (s : Span). mark_of labelled (spanned text s) in
-    let all : length (vec_items c.in-ok-leaves.leaves) ≡ whole.leaves =
-    ap length (c.in-ok-leaves.ensures ∙ ap (flat_map f) c.deref-3.ensures.value)
+    let all : length (vec_items c.in_ok-leaves.leaves) ≡ whole.leaves =
+    ap length (c.in_ok-leaves.ensures ∙ ap (flat_map f) c.deref-3.ensures.value)
     ∙ leaves_counted labelled text spans
     ∙ ap (λ (ss : List Span). count Leaf (map m ss)) (sym c.deref.ensures.value)
-    ∙ ap (count Leaf) (sym c.in-ok-marks.ensures)
+    ∙ ap (count Leaf) (sym c.in_ok-marks.ensures)
     ∙ ap (count Leaf) (sym c.deref-2.ensures.value)
     ∙ sym (reads_leaves whole.reads) in
     record {
