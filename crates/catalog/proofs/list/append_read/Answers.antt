@@ -51,8 +51,8 @@ read_outcome {K} number width stands order label query file none learns os es ws
     subst (λ (f : Option ListerFault). Outcome f was (patterns_text order label o) is r) fault
     (subst (λ (p : Opening K). Outcome (then_session None (opening_refusal order p)) was (patterns_text order label p) is r) same x)
 
-pub returns-in-err-tape-count : goal.returns-in-err-tape-count
-returns-in-err-tape-count g c =
+pub returns-in_err-tape_count : goal.returns-in_err-tape_count
+returns-in_err-tape_count g c =
     let number = g.K.Kind.number in
     let width = g.K.Kind.width in
     let stands = g.K.Kind.stands in
@@ -62,12 +62,12 @@ returns-in-err-tape-count g c =
     let b = length c.args.events.now in
     let query = c.args.query.now in
     let learning = first_wrong (learn_refusal order (events_of width stands file) 1024 ∷ opening_refusal order (opening_in width stands order query file) ∷ []) in
-    let same = room_for_all number width stands file a b c.requires.offset-room c.requires.event-room in
-    let e = fault_of_err (read_fault number width stands file a b) learning (tapes_in file, events_in file) _ (sym c.read-tapes.ensures.answer ∙ c.in-err-tape-count.was) in
-    refused_outcome (reading_fault number width stands order c.args.query.now file) (vec_items c.args.text.now) (kind_text width stands order g.K.Kind.label c.args.query.now file) (vec_items c.args.text.now) c.from-residual.result _ c.from-residual.ensures.1 (sym (ap (λ (o : Option BundleFault). then_session o learning) same) ∙ e) refl
+    let same = room_for_all number width stands file a b c.requires.offset_room c.requires.event_room in
+    let e = fault_of_err (read_fault number width stands file a b) learning (tapes_in file, events_in file) _ (sym c.read_tapes.ensures.answer ∙ c.in_err-tape_count.was) in
+    refused_outcome (reading_fault number width stands order c.args.query.now file) (vec_items c.args.text.now) (kind_text width stands order g.K.Kind.label c.args.query.now file) (vec_items c.args.text.now) c.from_residual.result _ c.from_residual.ensures.1 (sym (ap (λ (o : Option BundleFault). then_session o learning) same) ∙ e) refl
 
-pub returns-in-err-word-count : goal.returns-in-err-word-count
-returns-in-err-word-count g c =
+pub returns-in_err-word_count : goal.returns-in_err-word_count
+returns-in_err-word_count g c =
     let number = g.K.Kind.number in
     let width = g.K.Kind.width in
     let stands = g.K.Kind.stands in
@@ -75,21 +75,21 @@ returns-in-err-word-count g c =
     let file = c.args.file.now in
     let a = length c.args.offsets.now in
     let b = length c.args.events.now in
-    let t = c.in-ok-tape-count.tape-count in
-    let e = c.in-ok-tape-count.event-count in
-    let r = counts_read number width stands file a b t e c.requires.offset-room c.requires.event-room (sym c.read-tapes.ensures.answer ∙ c.in-ok-tape-count.was) in
+    let t = c.in_ok-tape_count.tape_count in
+    let e = c.in_ok-tape_count.event_count in
+    let r = counts_read number width stands file a b t e c.requires.offset_room c.requires.event_room (sym c.read_tapes.ensures.answer ∙ c.in_ok-tape_count.was) in
     let x = r.2 in
     let y = r.3 in
-    let events : take (e - 0) c.read-tapes.new.events ≡ events_of width stands file =
-    events_read number width stands file a b t e r.0 r.1 c.args.events.now c.read-tapes.new.events r.3 (omega (arith, r.5)) c.read-tapes.ensures.events_after in
-    let slice = take (e - 0) c.read-tapes.new.events in
+    let events : take (e - 0) c.read_tapes.new.events ≡ events_of width stands file =
+    events_read number width stands file a b t e r.0 r.1 c.args.events.now c.read_tapes.new.events r.3 (omega (arith, r.5)) c.read_tapes.ensures.events_after in
+    let slice = take (e - 0) c.read_tapes.new.events in
     let room = length c.args.lexicon.now in
     let same : learn_refusal order slice room ≡ learn_refusal order (events_of width stands file) 1024 =
     lexicon_room order slice room c.requires.lexicon_room ∙ ap (λ (l : List _). learn_refusal order l 1024) events in
     let rest : List (Option Refusal) = opening_refusal order (opening_in width stands order c.args.query.now file) ∷ [] in
-    let f = session_of_err (learn_refusal order slice room) rest (length (learned order slice)) _ (sym c.learn-lexicon.ensures.answer ∙ c.in-err-word-count.was) in
+    let f = session_of_err (learn_refusal order slice room) rest (length (learned order slice)) _ (sym c.learn_lexicon.ensures.answer ∙ c.in_err-word_count.was) in
     let fault = ap (λ (o : Option BundleFault). then_session o (first_wrong (learn_refusal order (events_of width stands file) 1024 ∷ rest))) r.0 ∙ ap (λ (o : Option Refusal). then_session None (first_wrong (o ∷ rest))) (sym same) ∙ f in
-    refused_outcome (reading_fault number width stands order c.args.query.now file) (vec_items c.args.text.now) (kind_text width stands order g.K.Kind.label c.args.query.now file) (vec_items c.args.text.now) c.from-residual-in-err-word-count.result _ c.from-residual-in-err-word-count.ensures.1 fault refl
+    refused_outcome (reading_fault number width stands order c.args.query.now file) (vec_items c.args.text.now) (kind_text width stands order g.K.Kind.label c.args.query.now file) (vec_items c.args.text.now) c.from_residual-in_err-word_count.result _ c.from_residual-in_err-word_count.ensures.1 fault refl
 
 pub returns : goal.returns
 returns g c =
@@ -100,22 +100,22 @@ returns g c =
     let file = c.args.file.now in
     let a = length c.args.offsets.now in
     let b = length c.args.events.now in
-    let t = c.in-ok-tape-count.tape-count in
-    let e = c.in-ok-tape-count.event-count in
-    let r = counts_read number width stands file a b t e c.requires.offset-room c.requires.event-room (sym c.read-tapes.ensures.answer ∙ c.in-ok-tape-count.was) in
+    let t = c.in_ok-tape_count.tape_count in
+    let e = c.in_ok-tape_count.event_count in
+    let r = counts_read number width stands file a b t e c.requires.offset_room c.requires.event_room (sym c.read_tapes.ensures.answer ∙ c.in_ok-tape_count.was) in
     let x = r.2 in
     let y = r.3 in
-    let events : take (e - 0) c.read-tapes.new.events ≡ events_of width stands file =
-    events_read number width stands file a b t e r.0 r.1 c.args.events.now c.read-tapes.new.events r.3 (omega (arith, r.5)) c.read-tapes.ensures.events_after in
-    let offsets : take (t + 1 - 0) c.read-tapes.new.offsets ≡ offsets_in file =
-    offsets_read number width stands file a b t e r.0 r.1 c.args.offsets.now c.read-tapes.new.offsets r.2 (omega (arith, r.4)) c.read-tapes.ensures.offsets_after in
-    let slice = take (e - 0) c.read-tapes.new.events in
+    let events : take (e - 0) c.read_tapes.new.events ≡ events_of width stands file =
+    events_read number width stands file a b t e r.0 r.1 c.args.events.now c.read_tapes.new.events r.3 (omega (arith, r.5)) c.read_tapes.ensures.events_after in
+    let offsets : take (t + 1 - 0) c.read_tapes.new.offsets ≡ offsets_in file =
+    offsets_read number width stands file a b t e r.0 r.1 c.args.offsets.now c.read_tapes.new.offsets r.2 (omega (arith, r.4)) c.read_tapes.ensures.offsets_after in
+    let slice = take (e - 0) c.read_tapes.new.events in
     let room = length c.args.lexicon.now in
-    let n = c.in-ok-word-count.word_count in
+    let n = c.in_ok-word_count.word_count in
     let same : learn_refusal order slice room ≡ learn_refusal order (events_of width stands file) 1024 =
     lexicon_room order slice room c.requires.lexicon_room ∙ ap (λ (l : List _). learn_refusal order l 1024) events in
-    let k = session_of_ok (learn_refusal order slice room) (length (learned order slice)) n (sym c.learn-lexicon.ensures.answer ∙ c.in-ok-word-count.was) in
+    let k = session_of_ok (learn_refusal order slice room) (length (learned order slice)) n (sym c.learn_lexicon.ensures.answer ∙ c.in_ok-word_count.was) in
     let z = k.1 in
-    let words : take (n - 0) c.learn-lexicon.new.lexicon ≡ learned order (events_of width stands file) =
-    ap (take (n - 0)) c.learn-lexicon.ensures.after ∙ front_learned (learn_refusal order slice room) (learned order slice) c.args.lexicon.now (n - 0) k.0 (omega arith) ∙ ap (learned order) events in
-    read_outcome number width stands order g.K.Kind.label c.args.query.now file r.0 (sym same ∙ k.0) _ _ _ offsets events words (vec_items c.args.text.now) (vec_items c.append-rows.new.text) c.append-rows.result c.append-rows.ensures
+    let words : take (n - 0) c.learn_lexicon.new.lexicon ≡ learned order (events_of width stands file) =
+    ap (take (n - 0)) c.learn_lexicon.ensures.after ∙ front_learned (learn_refusal order slice room) (learned order slice) c.args.lexicon.now (n - 0) k.0 (omega arith) ∙ ap (learned order) events in
+    read_outcome number width stands order g.K.Kind.label c.args.query.now file r.0 (sym same ∙ k.0) _ _ _ offsets events words (vec_items c.args.text.now) (vec_items c.append_rows.new.text) c.append_rows.result c.append_rows.ensures

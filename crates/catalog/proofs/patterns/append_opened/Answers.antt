@@ -27,25 +27,25 @@ returns g c =
     let o = opening_of c.args.opening.now in
     let was = vec_items c.args.text.now in
     let query = c.args.query.now in
-    let s = c.append-patterns.new.session in
+    let s = c.append_patterns.new.session in
     let first = vec_items c.append.new.text in
-    let second = vec_items c.append-patterns.new.text in
+    let second = vec_items c.append_patterns.new.text in
     let third = vec_items c.append-2.new.text in
     let tapes = length o.offsets - 1 in
     let count = min (length (listed order o)) most_counted in
     let head = λ (n : ℕ). head_text n (length o.events) query.threshold query.longest in
-    let read = c.in-ok-append-patterns.ensures in
-    let begun : first ≡ was ++ head tapes = c.in-ok-append.ensures ∙ ap (λ (n : ℕ). was ++ head n) c.saturating-sub.ensures in
+    let read = c.in_ok-append_patterns.ensures in
+    let begun : first ≡ was ++ head tapes = c.in_ok-append.ensures ∙ ap (λ (n : ℕ). was ++ head n) c.saturating_sub.ensures in
     let list = whole_text order o label s first second read in
     let told : c.in-Ok.count ≡ count = same_second c.tell.result _ s.threshold c.in-Ok.count count c.in-Ok.is (whole_told order o label s first second read c.tell.result c.tell.ensures.answer) in
     IfOk-weaker c.append-2.result (λ u. third ≡ second ++ end_text c.in-Ok.count) (λ u. third ≡ was ++ (head tapes ++ session_text order label o))
     (λ u e. appended was (head tapes) (flat_map (listed_text order label o) (listed order o)) (end_text count) first second third begun list (e ∙ ap (λ (n : ℕ). second ++ end_text n) told))
     c.append-2.ensures
 
-pub returns-in-default : goal.returns-in-default
-returns-in-default g c =
-    let s = c.append-patterns.new.session in
-    let read = c.in-ok-append-patterns.ensures in
+pub returns-in_default : goal.returns-in_default
+returns-in_default g c =
+    let s = c.append_patterns.new.session in
+    let read = c.in_ok-append_patterns.ensures in
     absurd
-    (c.in-default.not-Ok _
-    (whole_told g.K.Kind.order (opening_of c.args.opening.now) g.K.Kind.label s (vec_items c.append.new.text) (vec_items c.append-patterns.new.text) read c.tell.result c.tell.ensures.answer))
+    (c.in_default.not-Ok _
+    (whole_told g.K.Kind.order (opening_of c.args.opening.now) g.K.Kind.label s (vec_items c.append.new.text) (vec_items c.append_patterns.new.text) read c.tell.result c.tell.ensures.answer))

@@ -14,8 +14,8 @@ use Rattle.catalog.proofs.patterns.append_patterns.Goals as goal
 handed : {K : Type 0} (order : K → K → Order) (s t : Session K) (m : ℕ) (row : List ℕ) (x : Option (ℕ × ℕ)) (n support : ℕ) → x ≡ Some (n, support) → Extends order (Next all_wants m) (says_next (Ok x) row) s t → Extends order (Next all_wants m) (pattern (take n row) support) s t
 handed order s t m row x n support is e = subst (λ (y : Option (ℕ × ℕ)). Extends order (Next all_wants m) (says_next (Ok y) row) s t) is e
 
-pub append-pattern-requires : goal.append-pattern-requires
-append-pattern-requires g c =
+pub append_pattern-requires : goal.append_pattern-requires
+append_pattern-requires g c =
     let o = opening_of c.args.opening.now in
     let x = c.loop-found.invariant.0 in
     let n = c.in-Some.length in
@@ -47,22 +47,22 @@ loop-found-preserved g c =
     let is = vec_items c.loop-found.text in
     let e : n - 0 ≡ n = omega arith in
     let st = hands_out order o s x.transcript x.stands x.reads t m (take n row) support (handed g.K.Kind.order c.loop-found.session c.next.new.self (length c.loop-found.places) c.next.new.row _ c.in-Some.length c.in-Some.support c.in-Some.is c.in-Ok.ensures.extends x.transcript x.stands) in
-    let more = c.in-ok-append-pattern.ensures ∙ ap (λ (k : ℕ). is ++ pattern_text label support (picked o.lexicon (take k row))) e in
-    (read_more order o label s t (vec_items c.args.text.now) is (vec_items c.append-pattern.new.text) x m (take n row) support st more, omega (arith, c.loop-found.invariant.1, c.next.auto.row))
+    let more = c.in_ok-append_pattern.ensures ∙ ap (λ (k : ℕ). is ++ pattern_text label support (picked o.lexicon (take k row))) e in
+    (read_more order o label s t (vec_items c.args.text.now) is (vec_items c.append_pattern.new.text) x m (take n row) support st more, omega (arith, c.loop-found.invariant.1, c.next.auto.row))
 
-pub returns-in-default : goal.returns-in-default
-returns-in-default g c =
+pub returns-in_default : goal.returns-in_default
+returns-in_default g c =
     let x = c.loop-found.invariant in
     absurd
     (never_refused g.K.Kind.order (opening_of c.args.opening.now) c.loop-found.session x.0.transcript x.0.stands x.0.reads c.next.new.self (length c.loop-found.places) (omega (arith, x.1)) _
-    (c.in-default.ensures.extends x.0.transcript x.0.stands))
+    (c.in_default.ensures.extends x.0.transcript x.0.stands))
 
-pub returns-in-default-found : goal.returns-in-default-found
-returns-in-default-found g c =
+pub returns-in_default-found : goal.returns-in_default-found
+returns-in_default-found g c =
     let order = g.K.Kind.order in
     let s = c.loop-found.session in
     let t = c.next.new.self in
     let m = length c.loop-found.places in
     let x = c.loop-found.invariant in
     read_to_end order (opening_of c.args.opening.now) g.K.Kind.label s t (vec_items c.args.text.now) (vec_items c.loop-found.text) x.0 m
-    (subst (λ (found : Option (ℕ × ℕ)). Extends order (Next all_wants m) (says_next (Ok found) c.next.new.row) s t) c.in-default-found.is c.in-Ok.ensures.extends)
+    (subst (λ (found : Option (ℕ × ℕ)). Extends order (Next all_wants m) (says_next (Ok found) c.next.new.row) s t) c.in_default-found.is c.in-Ok.ensures.extends)

@@ -22,7 +22,7 @@ loop-place-preserved g c =
     let i = c.loop-place.place-index in
     let p = get_or places i 0 in
     let one : p + 1 - p ≡ 1 = omega arith in
-    c.in-ok-extend-from-slice.ensures.items
+    c.in_ok-extend_from_slice.ensures.items
     ∙ ap (λ (l : List _). l ++ take (p + 1 - p) (drop p lexicon)) c.loop-place.invariant
     ∙ ap (λ (n : ℕ). picked lexicon (take i places) ++ take n (drop p lexicon)) one
     ∙ sym (picked_more lexicon places i c.loop-place-test.true)

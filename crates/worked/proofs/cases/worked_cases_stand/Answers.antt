@@ -1,5 +1,4 @@
-use mathlib.Core.Path.{refl}
-use native.Mathlib.Omega.{arith}
+use Rattle.std.proofs.Common.{refl, arith}
 use Rattle.grammar.specs.Grammar.{lone_term, lone_factor, lone_atom, next, starred, leaf}
 use Rattle.regular.specs.Regex.{one, star}
 use Rattle.worked.specs.Endings.{ending_tree}
@@ -20,4 +19,12 @@ returns c =
       none = refl;
       stationed = refl;
       reported = refl;
+      marks = refl;
+      leaves = refl;
+      reads =
+          lone_term 0 3 0 2 ending_tree
+          (next 0 2 3 0 1 2 (star (one 0)) (one 1)
+          (starred 0 1 0 1 (one 0) (lone_atom 0 1 0 1 (one 0) (leaf 0 0 (record { inside = omega arith; is = refl }))) (record { inside = omega arith; is = refl }))
+          (lone_factor 2 3 1 2 (one 1) (lone_atom 2 3 1 2 (one 1) (leaf 2 1 (record { inside = omega arith; is = refl })))));
+      matching = refl;
     }
