@@ -3,6 +3,8 @@ ghost use Rattle.listing.specs.Replies.{query_line, bundle_part, requested, kind
 
 use bundle::fault::BundleFault;
 use event::kind::Kind;
+use event::scanner::Scanner;
+use event::station::Station;
 use query::line::{Query, QueryFault, count_before, read_query};
 
 /// The most bytes that the lister takes.
@@ -54,8 +56,8 @@ pub(crate) fn file_kind(file: &[u8]) -> Result<FileKind, BundleFault>
         return Err(BundleFault::Short);
     };
     match u16::from_be_bytes([*high, *low]) {
-        <event::scanner::Scanner as event::kind::Kind>::NUMBER => Ok(FileKind::Scanner),
-        <event::station::Station as event::kind::Kind>::NUMBER => Ok(FileKind::Station),
+        Scanner::NUMBER => Ok(FileKind::Scanner),
+        Station::NUMBER => Ok(FileKind::Station),
         _ => Err(BundleFault::Kind),
     }
 }

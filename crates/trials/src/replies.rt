@@ -116,9 +116,9 @@ fn too_much_input(rt: HostRuntime) -> Result<(), Fail> {
     let mut input = Vec::new(heap);
     input.resize(32_769, b'1')?;
     let reply = reply_to(heap, &input)?;
-    assert!(rt; reply.text.as_slice() == b"refused 15 query 0 -\n");
+    assert!(rt; reply.text.as_slice() == b"refused 15 query 0 -\n".as_slice());
     input.truncate(32_768);
     let most = reply_to(heap, &input)?;
-    assert!(rt; most.text.as_slice() == b"refused 14 query 0 -\n");
+    assert!(rt; most.text.as_slice() == b"refused 14 query 0 -\n".as_slice());
     Ok(())
 }
