@@ -1,5 +1,5 @@
 -- A bundle read into rows that have room for every bundle.
-use Rattle.std.proofs.Common.{◌≡◌, ℕ, ◌+◌, ◌-◌, ◌<◌, ◌≤◌, Bool, ◌&&◌, leb, List, [], ◌∷◌, ◌++◌, map, length, get_or, take, drop, is_some, IsErrAnd, Some, None, Ok, Err, Option, Result, sym, refl, ap, ◌∙◌, subst, arith}
+use Rattle.std.proofs.Common.{◌≡◌, ℕ, ◌+◌, ◌≤◌, Bool, ◌&&◌, leb, List, [], ◌∷◌, map, length, take, drop, is_some, IsErrAnd, Some, None, Ok, Err, Option, Result, sym, refl, ap, ◌∙◌, subst, arith}
 use Rattle.std.specs.List.{range_with_len}
 use Rattle.std.proofs.lemmas.List.FromFn.{length-map-range_with_len, get_or-map-range_with_len}
 use Rattle.std.proofs.lemmas.List.{take_at, length-map}
@@ -8,10 +8,9 @@ use Rattle.std.proofs.lemmas.Bool.Decides.{nat_tests}
 use Rattle.event.specs.declared.order.Order.{Order}
 use Rattle.event.specs.declared.refusal.Refusal.{Refusal}
 use Rattle.event.specs.declared.refusal.Refusal.TheVariants as refusal
-use Rattle.event.specs.Rows.{laid}
 use Rattle.event.proofs.Laying.{laid_fits}
 use Rattle.bundle.specs.declared.fault.BundleFault.{BundleFault}
-use Rattle.bundle.specs.Bundles.{tapes_in, events_in, offsets_in, event_in, events_of, present, first_wrong, room_check, file_fault, read_fault, filled}
+use Rattle.bundle.specs.Bundles.{tapes_in, events_in, event_in, events_of, present, first_wrong, room_check, file_fault, read_fault, filled}
 use Rattle.bundle.proofs.Checks.{sound_from, some_present}
 use Rattle.matching.specs.Checks as matching
 use Rattle.matching.specs.Checks.{unless, first_wrong as refusals}

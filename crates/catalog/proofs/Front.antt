@@ -1,5 +1,5 @@
 -- The query and the kind of event, before the bundle is read.
-use Rattle.std.proofs.Common.{◌≡◌, ℕ, List, Some, None, Ok, Err, Option, Result, sym, refl, ap, ◌∙◌, subst, arith}
+use Rattle.std.proofs.Common.{◌≡◌, ℕ, List, Some, Ok, Err, Option, Result, sym, ap, ◌∙◌, subst, arith}
 use Rattle.bundle.specs.declared.fault.BundleFault.{BundleFault}
 use Rattle.query.specs.declared.line.Query.{Query}
 use Rattle.query.specs.declared.line.QueryFault.{QueryFault}

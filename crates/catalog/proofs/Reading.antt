@@ -1,5 +1,5 @@
 -- How a session reads its list: each next of it is answered, hands out a pattern of the opening's, and comes nearer to END.
-use Rattle.std.proofs.Common.{◌≡◌, ℕ, zero, suc, ◌<◌, ◌≤◌, min, Bool, leb, List, [], ◌∷◌, ◌++◌, map, reverse, length, Some, None, Ok, Option, Result, sym, refl, ap, ◌∙◌, subst, arith}
+use Rattle.std.proofs.Common.{◌≡◌, ℕ, zero, suc, ◌<◌, ◌≤◌, min, Bool, leb, List, [], ◌∷◌, ◌++◌, map, reverse, length, None, Ok, Option, Result, sym, refl, ap, ◌∙◌, subst, arith}
 use mathlib.Core.List.{reverse-cons}
 use Rattle.std.specs.List.{flat_map}
 use Rattle.std.proofs.lemmas.List.{flat_map_more, length-map, length-reverse}

@@ -1,4 +1,4 @@
-use Rattle.std.specs.Prelude.{ℕ, ◌+◌, ◌*◌, Bool, true, false, cond, List, [], ◌∷◌, ◌++◌, Some, None, decimal, Option, nat_le}
+use Rattle.std.specs.Prelude.{ℕ, ◌+◌, ◌*◌, cond, List, [], ◌∷◌, Some, None, decimal, Option, nat_le}
 use Rattle.event.specs.declared.order.Order.{Order}
 use Rattle.event.specs.declared.scanner.Scanner.{Scanner}
 use Rattle.event.specs.Numerals.{numeral}

@@ -1,4 +1,4 @@
-use Rattle.std.specs.Prelude.{ℕ, ◌+◌, ◌-◌, ◌*◌, Bool, true, false, cond, ◌&&◌, List, [], ◌∷◌, ◌++◌, length, take, Some, None, decimal, Option, ◌==◌, nat_le, slice_index}
+use Rattle.std.specs.Prelude.{ℕ, ◌+◌, ◌-◌, ◌*◌, cond, ◌&&◌, List, [], ◌∷◌, ◌++◌, length, take, Some, None, decimal, Option, ◌==◌, nat_le, slice_index}
 use Rattle.event.specs.declared.order.Order.{Order}
 use Rattle.event.specs.declared.station.Station.{Station}
 use Rattle.event.specs.Numerals.{numeral}

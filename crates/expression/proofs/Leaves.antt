@@ -1,5 +1,5 @@
 -- A mark is a leaf exactly where something stands at it.
-use Rattle.std.proofs.Common.{◌≡◌, ℕ, ◌+◌, Bool, true, false, cond, eqb, List, [], ◌∷◌, ◌++◌, map, length, Some, None, Option, refl, ap, ◌∙◌, arith, length-append}
+use Rattle.std.proofs.Common.{◌≡◌, ℕ, Bool, true, false, cond, eqb, List, [], ◌∷◌, map, length, Some, None, Option, refl, arith, length-append}
 use Rattle.std.specs.List.{flat_map}
 use Rattle.event.specs.Spans.{spanned}
 use Rattle.event.specs.declared.span.Span.{Span}

@@ -1,10 +1,10 @@
 -- A list that is read to END is whole.
-use Rattle.std.proofs.Common.{◌≡◌, ℕ, ◌<◌, ◌≤◌, Bool, true, ◌&&◌, leb, ◌⊎◌, ◌↔◌, List, [], ◌∷◌, map, reverse, length, Some, Decides, sym, refl, ap, ◌∙◌, subst, inl, inr}
+use Rattle.std.proofs.Common.{◌≡◌, ℕ, ◌<◌, ◌≤◌, Bool, true, ◌&&◌, leb, ◌↔◌, List, [], ◌∷◌, map, reverse, length, Some, Decides, sym, refl, ap, ◌∙◌, subst, inl, inr}
 use Rattle.std.proofs.lemmas.Bool.Decides.{Decides-and}
 use Rattle.law.specs.declared.stage.Stage.TheVariants as stages
 use Rattle.law.specs.Order.{Precedes, IsPattern}
 use Rattle.law.specs.Transcripts.{Exchange, Opened, Gave, Ended, Marked, Raised, Besides, Among, stage, opening, returned, handed_out, skipped}
-use Rattle.law.specs.Rules.{World, events_of, support_of, standing, PatternOf, PassedAt, Answered}
+use Rattle.law.specs.Rules.{World, events_of, support_of, standing, PatternOf, PassedAt}
 use Rattle.law.specs.Answers.{patterns, precedes}
 use Rattle.law.specs.Law.{Deserves, Lawful}
 use Rattle.law.specs.Lists.{remaining, Reads, deserving, DeservingStands, ListIsWhole}

@@ -1,5 +1,5 @@
 -- The law of a session's list.
-use Rattle.std.specs.Prelude.{◌≡◌, ℕ, ◌≤◌, Bool, true, ◌≢◌, ◌↔◌, List, [], ◌∷◌, ◌++◌, map, Some}
+use Rattle.std.specs.Prelude.{◌≡◌, ℕ, ◌≤◌, Bool, true, ◌≢◌, ◌↔◌, List, [], ◌∷◌, ◌++◌, Some}
 use Rattle.law.specs.declared.stage.Stage.TheVariants as stages
 use Rattle.law.specs.Order.{Begins, IsFirst}
 use Rattle.law.specs.Transcripts.{Exchange, Opened, Gave, Ended, Marked, Raised, Besides, Among, Descending, stage, opening, returned, handed_out, skipped, Passed}

@@ -1,5 +1,5 @@
 -- What the pieces of a line write.
-use Rattle.std.specs.Prelude.{ℕ, ◌+◌, ◌-◌, ◌/◌, ◌%◌, Bool, true, false, cond, List, [], ◌∷◌, ◌++◌, length, take, drop, Some, None, codes, decimal, Option, nat_le, nat_lt}
+use Rattle.std.specs.Prelude.{ℕ, ◌+◌, ◌-◌, ◌/◌, ◌%◌, cond, List, [], ◌∷◌, ◌++◌, length, take, drop, Some, None, codes, decimal, Option, nat_le, nat_lt}
 use Rattle.std.specs.List.{flat_map}
 use Rattle.line.specs.declared.piece.Word.{Word}
 use Rattle.line.specs.declared.piece.Word.TheVariants.{Tapes, Events, Threshold, Length, End, Refused, Query, Bundle, Space, Dash, LineFeed}

@@ -1,6 +1,6 @@
 -- Lexicons: rows of events, each before the next.
 -- In `get_or xs i d`, d is what stands past the end; each i here is within.
-use Rattle.std.specs.Prelude.{◌≡◌, ℕ, ◌<◌, Bool, true, false, ◌&&◌, List, [], ◌∷◌, length, slice_index_or}
+use Rattle.std.specs.Prelude.{◌≡◌, ℕ, ◌<◌, Bool, true, ◌&&◌, List, [], ◌∷◌, length, slice_index_or}
 use Rattle.event.specs.declared.order.Order.{Order}
 use Rattle.event.specs.declared.order.Order.TheVariants.{Before}
 use Rattle.event.specs.Orders.{is_before}

@@ -1,5 +1,5 @@
 -- The query line: a threshold of one to three digits, a space, a longest length of one or two, a space, and a text.
-use Rattle.std.specs.Prelude.{◌≡◌, ℕ, ◌+◌, ◌-◌, ◌≤◌, Bool, true, false, cond, ◌&&◌, List, [], ◌∷◌, ◌++◌, length, take, drop, Some, None, Ok, Err, Option, Result, ◌==◌, nat_le, nat_lt}
+use Rattle.std.specs.Prelude.{◌≡◌, ℕ, ◌+◌, ◌-◌, ◌≤◌, true, cond, ◌&&◌, List, [], ◌∷◌, ◌++◌, length, take, drop, Some, None, Ok, Err, Option, Result, ◌==◌, nat_le, nat_lt}
 use Rattle.event.specs.declared.span.Span.{Span}
 use Rattle.event.specs.Numerals.{is_digit, onward, read_from}
 use Rattle.event.specs.Spans.{span}

@@ -1,5 +1,5 @@
 -- The automaton, as it reads, keeps the places that a walk may have come to.
-use Rattle.std.proofs.Common.{◌≡◌, ℕ, ◌+◌, ◌<◌, Bool, true, ◌&&◌, ◌⊎◌, ◌↔◌, List, [], ◌∷◌, ◌++◌, Decides, sym, refl, subst, inl, ⊎_elim, arith}
+use Rattle.std.proofs.Common.{◌≡◌, ℕ, ◌<◌, Bool, true, ◌&&◌, ◌↔◌, List, [], ◌∷◌, ◌++◌, Decides, sym, refl, subst, inl, ⊎_elim, arith}
 use Rattle.std.proofs.lemmas.Bool.Decides.{Decides-below_or, Decides-not}
 use Rattle.std.proofs.lemmas.Bool.{eq-eqb, and_from, and_parts, cases_lt}
 use Rattle.regular.specs.Regex.{Regex, one, seq, alt, star, plus, opt, In, Barren}

@@ -1,5 +1,5 @@
 -- The lister's faults, and the bytes at fault.
-use Rattle.std.specs.Prelude.{ℕ, List, [], Some, None, Option}
+use Rattle.std.specs.Prelude.{ℕ, List, None, Option}
 use Rattle.std.specs.Option.{unwrap_or}
 use Rattle.event.specs.declared.refusal.Refusal.{Refusal}
 use Rattle.event.specs.declared.refusal.Refusal.TheVariants as refusal

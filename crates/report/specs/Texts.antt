@@ -1,5 +1,5 @@
 -- The lines that the lister writes, each with its line feed.
-use Rattle.std.specs.Prelude.{ℕ, List, [], ◌∷◌, ◌++◌, codes, decimal}
+use Rattle.std.specs.Prelude.{ℕ, List, [], ◌∷◌, codes, decimal}
 use Rattle.std.specs.List.{flat_map}
 use Rattle.event.specs.Refusals.{number_of}
 use Rattle.line.specs.Pieces.{hex_pair, parted}

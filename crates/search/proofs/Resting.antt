@@ -3,7 +3,7 @@ use Rattle.std.proofs.Common.{◌≡◌, ℕ, ◌+◌, ◌<◌, ◌≤◌, List,
 use Rattle.law.specs.Order.{AllBelow, IsPattern}
 use Rattle.search.specs.declared.turn.Turn.{Turn}
 use Rattle.search.specs.declared.turn.Turn.TheVariants.{Found, Go, End}
-use Rattle.search.specs.Turns.{Limits, Stands, Left, Rests, Moves, left, turns}
+use Rattle.search.specs.Turns.{Limits, Stands, Left, Rests, Moves, turns}
 use Rattle.search.proofs.Tree.{below_snoc, below_front, length_snoc, snoc_is, snoc_some}
 use Rattle.search.proofs.Counts.{falls_side, falls_down, falls_up}
 

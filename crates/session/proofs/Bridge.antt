@@ -1,5 +1,5 @@
 -- What the search finds is what the law lets be handed out.
-use Rattle.std.proofs.Common.{◌≡◌, ℕ, ◌≤◌, Bool, true, false, List, [], ◌∷◌, length, Some, None, sym, refl, ap, ◌∙◌, subst}
+use Rattle.std.proofs.Common.{◌≡◌, ℕ, ◌≤◌, Bool, List, length, Some, None, sym, ap, ◌∙◌, subst}
 use Rattle.law.specs.Answers.{among}
 use Rattle.law.specs.Order.{Precedes, Begins, IsPattern, IsFirst}
 use Rattle.law.specs.Rules as law

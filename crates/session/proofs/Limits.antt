@@ -1,11 +1,9 @@
 -- What an opening that is not refused has.
-use Rattle.std.proofs.Common.{◌≡◌, ℕ, ◌≤◌, Bool, true, false, not, ◌&&◌, leb, List, [], ◌∷◌, length, is_some, Some, None, Option, sym, refl, ap, ◌∙◌, arith}
+use Rattle.std.proofs.Common.{◌≡◌, ℕ, ◌≤◌, ◌&&◌, leb, List, [], ◌∷◌, length, None, arith}
 use Rattle.std.proofs.lemmas.Bool.{and_parts, leb-true}
 use Rattle.event.specs.declared.order.Order.{Order}
-use Rattle.event.specs.declared.refusal.Refusal.{Refusal}
 use Rattle.event.specs.declared.refusal.Refusal.TheVariants.{Threshold, Length, Size, Lexicon}
-use Rattle.bundle.specs.Offsets.{wrong_offset}
-use Rattle.matching.specs.Checks.{unless, first_wrong}
+use Rattle.matching.specs.Checks.{unless}
 use Rattle.matching.specs.Lexicons.{rises_strictly}
 use Rattle.matching.specs.Rows.{few_tapes, few_events, offset_check, rows_refusal}
 use Rattle.law.specs.Openings.{Opening, opening_refusal}

@@ -1,5 +1,5 @@
 -- A run's transcript grows with each call.
-use Rattle.std.proofs.Common.{◌≡◌, ℕ, ◌+◌, ◌<◌, ◌≤◌, Bool, true, List, [], ◌∷◌, ◌++◌, map, reverse, length, get_or, take, sym, refl, ap, ◌∙◌, subst}
+use Rattle.std.proofs.Common.{◌≡◌, ℕ, ◌+◌, ◌<◌, ◌≤◌, Bool, List, [], ◌∷◌, ◌++◌, map, reverse, length, get_or, take, sym, refl, ap, ◌∙◌, subst}
 use mathlib.Core.List.{reverse-cons}
 use Rattle.std.proofs.lemmas.List.{take_more, take_all, map_push}
 use Rattle.event.specs.declared.order.Order.{Order}

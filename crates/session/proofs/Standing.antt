@@ -1,10 +1,10 @@
 -- How a session that stands for a transcript goes on.
-use Rattle.std.proofs.Common.{◌≡◌, ℕ, ◌<◌, ◌≤◌, Bool, true, false, leb, List, [], ◌∷◌, ◌++◌, length, take, drop, Some, None, Ok, Err, Option, Result, sym, refl, ap, ◌∙◌, subst, arith}
+use Rattle.std.proofs.Common.{◌≡◌, ℕ, ◌<◌, ◌≤◌, Bool, leb, List, [], ◌∷◌, ◌++◌, length, take, drop, Some, None, Option, sym, refl, ap, ◌∙◌, subst, arith}
 use Rattle.std.proofs.lemmas.Bool.{le-leb, lt-leb}
 use Rattle.std.proofs.lemmas.List.{length-append, take-append-le, take_at}
 use Rattle.event.specs.declared.order.Order.{Order}
 use Rattle.event.specs.declared.refusal.Refusal.{Refusal}
-use Rattle.event.specs.declared.refusal.Refusal.TheVariants.{Closed, Threshold, Room}
+use Rattle.event.specs.declared.refusal.Refusal.TheVariants.{Threshold, Room}
 use Rattle.bundle.specs.Tapes.{tapes}
 use Rattle.matching.specs.Checks.{unless, first_wrong}
 use Rattle.matching.specs.Picks.{picked}
@@ -18,7 +18,7 @@ use Rattle.law.specs.Openings as law
 use Rattle.law.specs.Openings.{world}
 use Rattle.law.specs.Rules.{World, Rule, Answered, Held, closed, stage_refusal, may_raise, refused, standing, longest_of, support_of, events_of}
 use Rattle.law.specs.States.{State, state_of, after}
-use Rattle.law.specs.Transcripts.{Call, Next, Skip, Raise, Probe, Answer, refusing, Exchange, Besides, Refused, call_of, answer_of, stage, opening}
+use Rattle.law.specs.Transcripts.{Call, Next, Raise, refusing, Exchange, Besides, Refused, call_of, answer_of, stage, opening}
 use Rattle.law.proofs.States.{states_follow}
 use Rattle.search.specs.Walks as walks
 use Rattle.search.specs.Walks.{at, lexicon_of, Sound, SameRows, Unmoved}

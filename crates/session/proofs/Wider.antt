@@ -1,9 +1,8 @@
 -- A next is answered alike with a row of another length, if it is refused alike.
-use Rattle.std.proofs.Common.{◌≡◌, ℕ, ◌-◌, ◌<◌, ◌≤◌, min, Bool, true, leb, ◌⊎◌, List, [], ◌∷◌, length, take, Option, sym, refl, ap, ◌∙◌, subst, inl, inr, arith}
+use Rattle.std.proofs.Common.{◌≡◌, ℕ, ◌-◌, ◌<◌, ◌≤◌, min, Bool, true, leb, ◌⊎◌, List, [], ◌∷◌, length, take, sym, refl, ap, ◌∙◌, subst, inl, inr, arith}
 use Rattle.std.proofs.lemmas.List.{length-take-le}
 use Rattle.std.proofs.lemmas.Bool.{le-leb, lt-leb, cases_lt}
 use Rattle.event.specs.declared.order.Order.{Order}
-use Rattle.event.specs.declared.refusal.Refusal.{Refusal}
 use Rattle.event.specs.declared.refusal.Refusal.TheVariants.{Room}
 use Rattle.matching.specs.Checks.{unless, first_wrong}
 use Rattle.law.specs.declared.stage.Ask.TheVariants as asks
@@ -13,7 +12,7 @@ use Rattle.law.specs.States.{State, state_of}
 use Rattle.law.specs.Transcripts.{Call, Open, Next, Skip, Raise, Probe, Tell, Answer, Exchange, Opened, Gave, Ended, Marked, Raised, Besides, Refused, Counted, Told, call_of, answer_of}
 use Rattle.session.specs.declared.session.Session.{Session}
 use Rattle.session.specs.Calls.{next_refusal}
-use Rattle.session.specs.Sessions.{Remembers, Stands, Follows, Extends}
+use Rattle.session.specs.Sessions.{Remembers, Extends}
 use Rattle.session.proofs.Standing.{next_refused}
 
 module _ {O K : Type 0} where

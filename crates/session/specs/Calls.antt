@@ -4,14 +4,12 @@ use Rattle.event.specs.declared.order.Order.{Order}
 use Rattle.event.specs.declared.refusal.Refusal.{Refusal}
 use Rattle.event.specs.declared.refusal.Refusal.TheVariants.{Threshold, Room}
 use Rattle.matching.specs.Checks.{unless, first_wrong}
-use Rattle.law.specs.declared.stage.Stage.{Stage}
 use Rattle.law.specs.declared.stage.Stage.TheVariants as stages
 use Rattle.law.specs.declared.stage.Ask.TheVariants as asks
 use Rattle.law.specs.Rules.{stage_refusal, may_raise, most_counted}
 use Rattle.law.specs.Transcripts.{Answer, refusing, accepted, pattern, end, counted, told}
-use Rattle.search.specs.Walks.{at, lexicon_of, Sound, support_of, wants_of, SameRows, Unmoved, limits_of}
+use Rattle.search.specs.Walks.{at, support_of, wants_of, SameRows, Unmoved, limits_of}
 use Rattle.search.specs.Turns.{Finds}
-use Rattle.search.specs.declared.walk.Walk.{Walk}
 use Rattle.session.specs.declared.opening.Opening.{Opening}
 use Rattle.session.specs.declared.session.Session.{Session}
 

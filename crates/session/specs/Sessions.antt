@@ -1,5 +1,5 @@
 -- Openings and sessions, in the words of the law.
-use Rattle.std.specs.Prelude.{◌≡◌, ℕ, min, ◌≢◌, List, ◌∷◌, Some, None, Option}
+use Rattle.std.specs.Prelude.{◌≡◌, min, ◌≢◌, List, ◌∷◌, Some, None, Option}
 use Rattle.event.specs.declared.order.Order.{Order}
 use Rattle.law.specs.declared.stage.Stage.{Stage}
 use Rattle.law.specs.declared.stage.Stage.TheVariants as stages

@@ -1,5 +1,5 @@
 -- That the levels of a trail are the projections of its list, and what its answers then mean.
-use Rattle.std.specs.Prelude.{◌≡◌, ℕ, ◌<◌, ◌≤◌, List, [], ◌∷◌, ◌++◌, length, take, drop, Some, None, Option}
+use Rattle.std.specs.Prelude.{◌≡◌, ℕ, ◌<◌, ◌≤◌, List, [], ◌∷◌, ◌++◌, length, take, Some, None, Option}
 use Rattle.event.specs.declared.order.Order.{Order}
 use Rattle.bundle.specs.Tapes.{tapes}
 use Rattle.matching.specs.Picks.{picked}

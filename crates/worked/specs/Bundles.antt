@@ -1,5 +1,5 @@
 -- The bundles of the worked cases, and how a session over them is written down.
-use Rattle.std.specs.Prelude.{Bool, List, [], ◌∷◌, map, reverse, ℕ}
+use Rattle.std.specs.Prelude.{List, [], ◌∷◌, map, reverse, ℕ}
 use Rattle.event.specs.declared.order.Order.{Order}
 use Rattle.event.specs.declared.scanner.Scanner.{Scanner}
 use Rattle.event.specs.declared.station.Station.{Station}

@@ -1,4 +1,4 @@
-use Rattle.std.proofs.Common.{◌≡◌, ℕ, ◌+◌, ◌<◌, ◌≤◌, length, get_or, sym, ◌∙◌, arith}
+use Rattle.std.proofs.Common.{◌+◌, ◌≤◌, length, get_or, sym, ◌∙◌, arith}
 use Rattle.bundle.proofs.Cuts.{tape_between, tape_past, between_within, between_crossed}
 use Rattle.bundle.proofs.tape.tape_at.Goals as goal
 use Rattle.bundle.proofs.tape.tape_at.Goals.{then-offsets-lt2-via-then-offsets-lt2, then-offsets-lt2-via-else-offsets-lt2+then-number-offsets}

@@ -1,4 +1,4 @@
-use Rattle.std.proofs.Common.{◌≡◌, ℕ, List, Ok, vec_items, sym, refl, ap, ◌∙◌, subst}
+use Rattle.std.proofs.Common.{ℕ, List, Ok, vec_items, sym, refl, ap, ◌∙◌, subst}
 use Rattle.catalog.specs.declared.input.FileKind.TheVariants.{Scanner, Station}
 use Rattle.catalog.specs.Outcomes.{Outcome}
 use Rattle.catalog.specs.Replies.{requested, kind_for, kind_fault, bundle_part, fault_in, list_text}

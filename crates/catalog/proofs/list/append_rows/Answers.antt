@@ -1,5 +1,4 @@
-use Rattle.std.proofs.Common.{◌≡◌, [], None, vec_items, Option, sym, refl, ap, ◌∙◌}
-use Rattle.event.specs.declared.refusal.Refusal.{Refusal}
+use Rattle.std.proofs.Common.{[], None, vec_items, sym, refl, ap, ◌∙◌}
 use Rattle.law.specs.Openings.{opening_refusal}
 use Rattle.catalog.specs.Replies.{opening_for, then_session, patterns_text}
 use Rattle.catalog.proofs.Filed.{session_of_err, refused_outcome}

@@ -1,4 +1,4 @@
-use Rattle.std.proofs.Common.{◌≡◌, ℕ, ◌≤◌, List, Some, None, decimal, Option, sym, refl, ap, ◌∙◌, arith}
+use Rattle.std.proofs.Common.{◌≡◌, ℕ, ◌≤◌, List, Some, None, decimal, Option, refl, ap, ◌∙◌, arith}
 use Rattle.event.specs.declared.scanner.Scanner.{Scanner}
 use Rattle.event.specs.Numerals.{numeral}
 use Rattle.event.specs.Scanners.{code_of, coded, read_event, label_of}

@@ -1,9 +1,8 @@
-use Rattle.std.proofs.Common.{◌≡◌, ℕ, ◌≤◌, List, map, length, vec_items, sym, ap, ◌∙◌, subst, arith}
+use Rattle.std.proofs.Common.{◌≡◌, ℕ, ◌≤◌, List, map, length, vec_items, sym, ap, ◌∙◌, subst}
 use Rattle.std.specs.List.{flat_map}
 use Rattle.event.specs.Spans.{spanned}
 use Rattle.event.specs.declared.span.Span.{Span}
 use Rattle.grammar.proofs.Numbers.{reads_numbered, reads_leaves}
-use Rattle.grammar.specs.declared.mark.Mark.{Mark}
 use Rattle.grammar.specs.declared.mark.Mark.TheVariants.{Leaf}
 use Rattle.grammar.specs.Stands.{count}
 use Rattle.regular.specs.Automata.{Numbered}

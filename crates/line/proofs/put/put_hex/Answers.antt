@@ -1,6 +1,6 @@
-use Rattle.std.proofs.Common.{◌≡◌, ℕ, ◌/◌, ◌%◌, ◌<◌, List, [], ◌∷◌, length, get_or, sym, refl, ap, ◌∙◌, arith}
+use Rattle.std.proofs.Common.{◌≡◌, ℕ, List, [], ◌∷◌, get_or, ap, ◌∙◌, arith}
 use Rattle.std.proofs.lemmas.List.{get_or_default}
-use Rattle.line.specs.Pieces.{hex_pair, hex_digit, put_at}
+use Rattle.line.specs.Pieces.{hex_pair, put_at}
 use Rattle.line.proofs.Joining.{joined_next}
 use Rattle.line.proofs.Putting.{put_start, put_item, put_all}
 use Rattle.line.proofs.put.put_hex.Goals as goal

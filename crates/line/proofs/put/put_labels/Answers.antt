@@ -1,8 +1,8 @@
-use Rattle.std.proofs.Common.{◌≡◌, ℕ, ◌+◌, ◌-◌, ◌<◌, ◌≤◌, eqb, List, [], ◌∷◌, ◌++◌, length, take, drop, sym, refl, ap, ◌∙◌, subst, arith}
+use Rattle.std.proofs.Common.{ℕ, ◌-◌, List, [], length, take, drop, sym, ap, ◌∙◌, subst, arith}
 use Rattle.std.specs.List.{flat_map}
 use Rattle.std.proofs.lemmas.List.{length-append}
 use Rattle.std.proofs.lemmas.Bool.{eqb-true}
-use Rattle.line.specs.Pieces.{spaced, parted, put_at}
+use Rattle.line.specs.Pieces.{spaced, parted}
 use Rattle.line.proofs.Joining.{some, parted_none, parted_some}
 use Rattle.line.proofs.Putting.{Put, put_start, put_step}
 use Rattle.line.proofs.put.put_labels.Goals as goal

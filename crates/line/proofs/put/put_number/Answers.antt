@@ -1,4 +1,4 @@
-use Rattle.std.proofs.Common.{◌≡◌, ℕ, ◌-◌, length, take, drop, decimal, sym, ◌∙◌, arith}
+use Rattle.std.proofs.Common.{◌-◌, length, take, drop, decimal, sym, ◌∙◌, arith}
 use Rattle.event.proofs.Laying.{fits_written, short_written}
 use Rattle.line.proofs.Putting.{put_rest, length_rest}
 use Rattle.line.proofs.put.put_number.Goals as goal

@@ -1,4 +1,4 @@
-use Rattle.std.proofs.Common.{◌≡◌, ℕ, ◌+◌, ◌<◌, List, [], ◌∷◌, length, sym, refl, ap, ◌∙◌, arith}
+use Rattle.std.proofs.Common.{◌≡◌, ℕ, ◌+◌, [], ◌∷◌, ap, ◌∙◌, arith}
 use Rattle.line.specs.Pieces.{spaced, put_at}
 use Rattle.line.proofs.Joining.{joined_next}
 use Rattle.line.proofs.Putting.{put_start, put_item, put_all, put_more}

@@ -1,4 +1,4 @@
-use Rattle.std.proofs.Common.{◌≡◌, ℕ, List, Ok, vec_items, sym, refl, ap, ◌∙◌, subst}
+use Rattle.std.proofs.Common.{ℕ, List, Ok, vec_items, sym, refl, ap, ◌∙◌, subst}
 use Rattle.listing.specs.declared.input.FileKind.TheVariants.{Scanner, Station}
 use Rattle.listing.specs.Outcomes.{Outcome}
 use Rattle.listing.specs.Replies.{requested, kind_for, kind_fault, bundle_part, fault_in, list_text}

@@ -1,12 +1,11 @@
-use Rattle.std.proofs.Common.{◌≡◌, ℕ, ◌+◌, ◌-◌, ◌≤◌, List, ◌++◌, length, take, None, vec_items, Option, sym, refl, ap, ◌∙◌, subst, arith}
-use Rattle.event.specs.declared.refusal.Refusal.{Refusal}
+use Rattle.std.proofs.Common.{◌≡◌, ℕ, ◌+◌, ◌-◌, ◌≤◌, List, ◌++◌, length, take, None, vec_items, Option, sym, refl, ap, ◌∙◌, arith}
 use Rattle.bundle.specs.declared.fault.BundleFault.{BundleFault}
 use Rattle.bundle.specs.Bundles.{tapes_in, events_in, offsets_in, events_of, file_fault, read_fault, filled}
 use Rattle.bundle.proofs.Rows.{length_offsets}
 use Rattle.matching.specs.Learning.{learned, learn_refusal}
 use Rattle.matching.specs.Rows.{bundle_refusal}
 use Rattle.listing.specs.Replies.{then_learning, reading_fault, supports_text, kind_text}
-use Rattle.listing.proofs.Filed.{fault_of_err, learning_of_err, learning_of_ok, memory_outcome, refused_outcome, front_filled, front_learned, lexicon_room, room_for_all, length_events_of, counts_read, read_accepted}
+use Rattle.listing.proofs.Filed.{fault_of_err, learning_of_err, learning_of_ok, refused_outcome, front_filled, front_learned, lexicon_room, room_for_all, length_events_of, counts_read, read_accepted}
 use Rattle.listing.proofs.list.append_read.Goals as goal
 
 -- the offsets and the events of a file, at the fronts of the rows that they were read into

@@ -1,4 +1,4 @@
-use Rattle.std.proofs.Common.{◌≡◌, length, Err, Option, sym, ap, ◌∙◌}
+use Rattle.std.proofs.Common.{length, Err, Option, sym, ap, ◌∙◌}
 use Rattle.std.proofs.lemmas.Result.{err_from_is_err_and}
 use Rattle.event.specs.declared.refusal.Refusal.{Refusal}
 use Rattle.matching.specs.Learning.{learned, learn_refusal}

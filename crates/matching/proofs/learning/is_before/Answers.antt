@@ -1,5 +1,4 @@
 use Rattle.std.proofs.Common.{sym, ap, ◌∙◌}
-use Rattle.event.specs.declared.order.Order.{Order}
 use Rattle.event.specs.Orders.{is_before}
 use Rattle.matching.proofs.Picking.{read_picked}
 use Rattle.matching.proofs.Rises.{not_before}

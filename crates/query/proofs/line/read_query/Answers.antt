@@ -1,7 +1,6 @@
-use Rattle.std.proofs.Common.{◌≡◌, ℕ, ◌+◌, ◌-◌, List, length, take, drop, Some, None, Option, sym, refl, ap, ◌∙◌}
+use Rattle.std.proofs.Common.{ℕ, ◌+◌, ◌-◌, List, length, take, drop, Some, None, sym, refl, ap, ◌∙◌}
 use Rattle.std.proofs.lemmas.List.{take_rest}
-use Rattle.event.specs.Spans.{span}
-use Rattle.query.specs.Queries.{digits_to, query_of, query_in, or_line}
+use Rattle.query.specs.Queries.{digits_to, or_line}
 use Rattle.query.proofs.Cutting.{one_space, read_as}
 use Rattle.query.proofs.line.read_query.Goals as goal
 

@@ -1,7 +1,5 @@
-use Rattle.std.proofs.Common.{◌≡◌, ℕ, ◌-◌, cond, List, ◌++◌, length, take, is_ok, vec_items, vec_len, sym, ap, ◌∙◌, arith}
-use Rattle.std.specs.Vec.{with_items}
+use Rattle.std.proofs.Common.{◌≡◌, ℕ, ◌-◌, cond, List, ◌++◌, length, take, is_ok, vec_items, sym, ap, ◌∙◌, arith}
 use Rattle.std.proofs.lemmas.List.{with_items_is}
-use Rattle.event.specs.Rows.{laid}
 use Rattle.event.proofs.Laying.{take_laid}
 use Rattle.report.specs.Lines.{text_of}
 use Rattle.report.proofs.Appending.{made_cond}

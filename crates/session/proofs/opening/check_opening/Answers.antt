@@ -1,7 +1,7 @@
-use Rattle.std.proofs.Common.{◌≡◌, Bool, ◌&&◌, leb, List, [], ◌∷◌, Some, None, Option, sym, ap, ◌∙◌}
+use Rattle.std.proofs.Common.{◌≡◌, Bool, ◌&&◌, leb, [], ◌∷◌, Some, None, Option, sym, ap, ◌∙◌}
 use Rattle.event.specs.declared.refusal.Refusal.{Refusal}
 use Rattle.event.specs.declared.refusal.Refusal.TheVariants.{Threshold, Length}
-use Rattle.matching.specs.Checks.{or_refused, unless, first_wrong}
+use Rattle.matching.specs.Checks.{or_refused, unless}
 use Rattle.matching.specs.Rows.{rows_refusal}
 use Rattle.session.proofs.Refusing.{first_refuses, first_passes, last_decides}
 use Rattle.session.proofs.opening.check_opening.Goals as goal

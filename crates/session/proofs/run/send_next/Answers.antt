@@ -1,4 +1,4 @@
-use Rattle.std.proofs.Common.{◌≡◌, ℕ, List, ◌++◌, length, take, drop, Ok, Option, sym, ap, subst}
+use Rattle.std.proofs.Common.{◌≡◌, ℕ, List, ◌++◌, length, drop, Ok, Option, subst}
 use Rattle.law.specs.Transcripts as law
 use Rattle.search.specs.Walks.{at}
 use Rattle.session.specs.Calls.{AfterNext, row_after, says_next}

@@ -1,6 +1,5 @@
-use Rattle.std.proofs.Common.{◌≡◌, ℕ, ◌+◌, ◌<◌, ◌≤◌, List, [], ◌∷◌, ◌++◌, length, drop, set, Ok, Err, decimal, Result, sym, ap, ◌∙◌, arith}
+use Rattle.std.proofs.Common.{◌≡◌, ℕ, ◌+◌, ◌≤◌, List, [], ◌∷◌, ◌++◌, length, drop, set, Ok, decimal, sym, ap, ◌∙◌, arith}
 use Rattle.std.proofs.lemmas.List.{length-append}
-use Rattle.event.specs.declared.refusal.Refusal.{Refusal}
 use Rattle.event.specs.Rows.{written, laid}
 use Rattle.event.specs.Stations.{action_of, outcome_of, letter_of}
 use Rattle.event.proofs.Laying.{written_fits, written_short, laid_fits, laid_short, two_behind}

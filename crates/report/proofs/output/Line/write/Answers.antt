@@ -1,4 +1,4 @@
-use Rattle.std.proofs.Common.{◌≡◌, ℕ, List, length, sym, ap, ◌∙◌}
+use Rattle.std.proofs.Common.{ℕ, List, length, sym, ap, ◌∙◌}
 use Rattle.event.specs.Rows.{written, laid}
 use Rattle.report.specs.Lines.{text_of}
 use Rattle.report.proofs.output.Line.write.Goals as goal

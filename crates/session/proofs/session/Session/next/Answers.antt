@@ -1,11 +1,10 @@
-use Rattle.std.proofs.Common.{◌≡◌, ℕ, ◌≤◌, Bool, false, leb, List, [], ◌∷◌, ◌++◌, length, take, drop, Option, Result, sym, refl, ap, ◌∙◌, subst, inl, inr, arith}
+use Rattle.std.proofs.Common.{◌≡◌, ℕ, false, leb, List, [], ◌∷◌, ◌++◌, length, drop, Result, sym, refl, ap, ◌∙◌, subst, inl, inr, arith}
 use Rattle.event.specs.declared.refusal.Refusal.{Refusal}
 use Rattle.event.specs.declared.refusal.Refusal.TheVariants.{Room}
 use Rattle.law.specs.declared.stage.Stage.TheVariants as stages
-use Rattle.law.specs.declared.stage.Ask.TheVariants as asks
 use Rattle.law.specs.Openings.{Opening, world}
 use Rattle.law.specs.Order.{IsFirst}
-use Rattle.law.specs.Rules.{closed, stage_refusal, support_of, Eligible}
+use Rattle.law.specs.Rules.{closed, support_of, Eligible}
 use Rattle.law.specs.Transcripts as law
 use Rattle.matching.specs.Checks.{unless}
 use Rattle.session.specs.Calls.{refusal_in, row_after, says_next}

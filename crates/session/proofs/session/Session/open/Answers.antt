@@ -1,4 +1,4 @@
-use Rattle.std.proofs.Common.{◌≡◌, ℕ, List, Option, Result, sym, refl, ap, ◌∙◌, subst, Bor}
+use Rattle.std.proofs.Common.{ℕ, List, Option, Result, sym, refl, ap, ◌∙◌, subst, Bor}
 use Rattle.event.specs.declared.refusal.Refusal.{Refusal}
 use Rattle.law.specs.Openings.{opening_refusal}
 use Rattle.law.specs.Transcripts as law

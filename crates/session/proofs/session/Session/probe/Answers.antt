@@ -1,10 +1,9 @@
-use Rattle.std.proofs.Common.{◌≡◌, ℕ, List, [], ◌∷◌, ◌++◌, Option, Result, sym, refl, ap, ◌∙◌, subst}
+use Rattle.std.proofs.Common.{◌≡◌, [], ◌∷◌, ◌++◌, Result, sym, refl, ap, ◌∙◌, subst}
 use Rattle.event.specs.declared.refusal.Refusal.{Refusal}
 use Rattle.law.specs.declared.stage.Ask.TheVariants as asks
 use Rattle.law.specs.Openings.{Opening, world}
-use Rattle.law.specs.Rules.{World, stage_refusal, events_of}
+use Rattle.law.specs.Rules.{stage_refusal, events_of}
 use Rattle.law.specs.Transcripts as law
-use Rattle.search.specs.Walks.{at, lexicon_of, Sound}
 use Rattle.session.specs.Calls.{refusal_in, says_support}
 use Rattle.session.specs.Sessions.{Extends}
 use Rattle.session.proofs.Refusing.{exits, refused_by, passed_by, stays}

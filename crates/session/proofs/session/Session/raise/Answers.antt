@@ -1,4 +1,4 @@
-use Rattle.std.proofs.Common.{◌≡◌, Bool, [], ◌∷◌, Option, Result, sym, refl, ap, ◌∙◌, subst}
+use Rattle.std.proofs.Common.{Bool, [], ◌∷◌, Option, Result, sym, refl, ap, ◌∙◌, subst}
 use Rattle.event.specs.declared.refusal.Refusal.{Refusal}
 use Rattle.event.specs.declared.refusal.Refusal.TheVariants.{Threshold}
 use Rattle.law.specs.declared.stage.Ask.TheVariants as asks

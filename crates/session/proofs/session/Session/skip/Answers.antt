@@ -1,4 +1,4 @@
-use Rattle.std.proofs.Common.{◌≡◌, Option, Result, sym, refl, ap, ◌∙◌, subst}
+use Rattle.std.proofs.Common.{Option, Result, sym, refl, ap, ◌∙◌, subst}
 use Rattle.event.specs.declared.refusal.Refusal.{Refusal}
 use Rattle.law.specs.declared.stage.Ask.TheVariants as asks
 use Rattle.law.specs.Rules.{stage_refusal}
