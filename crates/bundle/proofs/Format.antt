@@ -9,7 +9,7 @@ use Rattle.bundle.specs.Numbers.{high_first, in_two, in_four}
 use Rattle.bundle.specs.Offsets.{LawfulOffsets}
 use Rattle.bundle.specs.Bundles.{kind_in, tapes_in, events_in, offset_place, offset_in, offsets_in, event_place, size_for, present, event_in, events_of, file_of, Says, FormatStands}
 use Rattle.bundle.proofs.Bytes.{high_first_in_two, high_first_in_four, in_two_high_first, in_four_high_first}
-use Rattle.bundle.proofs.Pieces.{part_behind, length_part, get_d_part, part_rest, joined_same, joined_map, cut, length_joined, piece_at}
+use Rattle.bundle.proofs.Pieces.{part_behind, length_part, get_or_part, part_rest, joined_same, joined_map, cut, length_joined, piece_at}
 use Rattle.bundle.proofs.Checks.{present_some, some_present, some_at, Sound, sound_from, sound_stands}
 
 -- four lists behind each other, and equal ones
@@ -29,7 +29,7 @@ module _ (file : List ℕ) (small : (i : ℕ) → get_or file i 0 < 256) where
   part_small : (from count i : ℕ) → i < count → get_or (part from count file) i 0 < 256
   part_small from count i h =
       let s = small (from + i) in
-      omega (arith, get_d_part from count file i h)
+      omega (arith, get_or_part from count file i h)
 
   two_back : (from : ℕ) → from + 2 ≤ length file → in_two (high_first (part from 2 file)) ≡ part from 2 file
   two_back from h = in_two_high_first (part from 2 file) (length_part from 2 file h) (part_small from 2)

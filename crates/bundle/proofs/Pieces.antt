@@ -11,8 +11,8 @@ part_behind from at count bs = ap (take count) (sym (drop-drop at from bs))
 pub length_part : (from count : ℕ) (bs : List ℕ) → from + count ≤ length bs → length (part from count bs) ≡ count
 length_part from count bs h = length-take-le count (drop from bs) (omega (arith, length-drop from bs))
 
-pub get_d_part : (from count : ℕ) (bs : List ℕ) (i : ℕ) → i < count → get_or (part from count bs) i 0 ≡ get_or bs (from + i) 0
-get_d_part from count bs i h = get_or-take count (drop from bs) i 0 h ∙ get_or-drop from bs i 0
+pub get_or_part : (from count : ℕ) (bs : List ℕ) (i : ℕ) → i < count → get_or (part from count bs) i 0 ≡ get_or bs (from + i) 0
+get_or_part from count bs i h = get_or-take count (drop from bs) i 0 h ∙ get_or-drop from bs i 0
 
 -- what begins at a place is a part and what is behind it
 pub part_rest : (from count : ℕ) (bs : List ℕ) → part from count bs ++ drop (from + count) bs ≡ drop from bs

@@ -8,8 +8,8 @@ use Rattle.bundle.specs.Bundles.{tapes_in, offset_in, offsets_in}
 pub length_offsets : (file : List ℕ) → length (offsets_in file) ≡ tapes_in file + 1
 length_offsets file = length-map-range_with_len (offset_in file) 0 (tapes_in file + 1)
 
-pub get_d_offsets : (file : List ℕ) (i : ℕ) → i < tapes_in file + 1 → get_or (offsets_in file) i 0 ≡ offset_in file i
-get_d_offsets file i h = get_or-map-range_with_len (offset_in file) 0 (tapes_in file + 1) i i 0 h (omega arith)
+pub get_or_offsets : (file : List ℕ) (i : ℕ) → i < tapes_in file + 1 → get_or (offsets_in file) i 0 ≡ offset_in file i
+get_or_offsets file i h = get_or-map-range_with_len (offset_in file) 0 (tapes_in file + 1) i i 0 h (omega arith)
 
 -- one more behind what was written
 pub write_more : {X : Type 0} (xs row : List X) (i : ℕ) (x : X) → length xs ≡ i → i < length row → set (xs ++ drop i row) i x ≡ (xs ++ (x ∷ [])) ++ drop (i + 1) row

@@ -7,4 +7,5 @@ pub mod Spans
 pub mod Scanners
 pub mod Stations
 pub mod Reading
-pub mod StationKindLemmas
+pub mod ScannerLabels
+pub mod StationLabels

@@ -62,6 +62,7 @@ pub trait Kind: Copy {
     fn read_label(bytes: &[u8]) -> Result<Self, Refusal>
         ensures { result ≡ or_else Mark (labelled bytes.now) };
 
+    // The laws, proved by each impl.
     ghost alike_itself: { (x : Self) → order x x ≡ Order.Alike };
 
     ghost exchanged: { (x y : Self) → order y x ≡ flipped (order x y) };

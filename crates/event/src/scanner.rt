@@ -1,11 +1,8 @@
-ghost use Rattle.std.specs.Prelude.{◌≡◌, ℕ, Option};
-ghost use Rattle.std.proofs.Common.{sym, subst, arith, rules};
+ghost use Rattle.std.specs.Prelude.{◌≡◌};
+ghost use Rattle.std.proofs.Common.{rules};
 ghost use Rattle.event.specs.Kinds.{Exact};
-ghost use Rattle.event.specs.Scanners.{code_of, order_of, stands_for, label_of, labelled_by, coded, read_event};
-ghost use Rattle.std.proofs.lemmas.Bool.Decides.{nat_tests};
-ghost use Rattle.event.specs.declared.order.Order.TheVariants.{Alike};
-ghost use Rattle.event.specs.Orders.{AlikeSome};
-ghost use Rattle.event.specs.Reading.{numeral_decimal};
+ghost use Rattle.event.specs.ScannerLabels.{reads_back};
+ghost use Rattle.event.specs.Scanners.{code_of, order_of, stands_for, label_of, labelled_by};
 
 use crate::decimal::{decimal_length, read_numeral, write_decimal};
 use crate::kind::Kind;
@@ -54,9 +51,7 @@ impl Kind for Scanner {
 
     ghost carried = { Prim.search rules };
 
-    ghost read_back = { λ x.
-        let same : order_of x (coded (code_of x)) ≡ Alike = Prim.grind (arith, nat_tests) in
-        subst (λ (o : Option ℕ). AlikeSome order_of x (read_event o)) (sym (numeral_decimal 4095 (code_of x) (omega arith) (omega arith))) same };
+    ghost read_back = { reads_back };
 
     fn kind_number() -> u16 {
         <Scanner as Kind>::NUMBER

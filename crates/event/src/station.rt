@@ -1,13 +1,8 @@
-ghost use Rattle.std.specs.Prelude.{◌≡◌, ℕ, Some, Option};
-ghost use Rattle.std.proofs.Common.{sym, ap, subst, ◌∙◌, arith, rules};
+ghost use Rattle.std.specs.Prelude.{◌≡◌};
+ghost use Rattle.std.proofs.Common.{rules};
 ghost use Rattle.event.specs.Kinds.{Exact};
-ghost use Rattle.event.specs.Stations.{action_of, outcome_of, order_of, stands_for, label_of, labelled_by, letter_of, outcome_for, reported, read_event};
-ghost use Rattle.std.proofs.lemmas.Bool.Decides.{nat_tests};
-ghost use Rattle.std.specs.Fmt as Written;
-ghost use Rattle.event.specs.declared.order.Order.TheVariants.{Alike};
-ghost use Rattle.event.specs.Orders.{AlikeSome};
-ghost use Rattle.event.specs.Reading.{numeral_decimal};
-ghost use Rattle.event.specs.StationKindLemmas.{parts, letter_back, read_as};
+ghost use Rattle.event.specs.StationLabels.{reads_back};
+ghost use Rattle.event.specs.Stations.{action_of, outcome_of, order_of, stands_for, label_of, labelled_by, letter_of, outcome_for};
 
 use crate::decimal::{decimal_length, read_numeral, write_decimal};
 use crate::kind::Kind;
@@ -91,14 +86,7 @@ impl Kind for Station {
 
     ghost carried = { Prim.search rules };
 
-    ghost read_back = { λ x.
-        let same : order_of x (reported (action_of x) (outcome_of x) 0) ≡ Alike = Prim.grind (arith, nat_tests) in
-        let e : labelled_by (label_of x) ≡ Some (reported (action_of x) (outcome_of x) 0) =
-        parts (Written.decimal (action_of x)) (letter_of (outcome_of x))
-        ∙ ap (λ (o : Option ℕ). read_event o (outcome_for (letter_of (outcome_of x)))) (numeral_decimal 99 (action_of x) (omega arith) (omega arith))
-        ∙ ap (λ (o : Option ℕ). read_event (Some (action_of x)) o) (letter_back (outcome_of x) (omega arith))
-        ∙ read_as (action_of x) (outcome_of x) (omega arith) in
-        subst (AlikeSome order_of x) (sym e) same };
+    ghost read_back = { reads_back };
 
     fn kind_number() -> u16 {
         <Station as Kind>::NUMBER

@@ -11,7 +11,7 @@ pub trait Filter<K: Kind> {
     // Whether a list is barren.
     ghost barren: { Self → List K → Bool };
 
-    // The law, proved by each impl: no extension of a barren list is wanted. It is no `law`, so that a filter may hold a reference.
+    // The law, proved by each impl: no extension of a barren list is wanted.
     ghost fruitless: { BarrenStands wants barren };
 
     /// Whether a list is wanted.

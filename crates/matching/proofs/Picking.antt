@@ -67,18 +67,18 @@ module _ {K : Type 0} (events : List K) where
       let o = one_at events p (w 0 (omega arith)) in
       ap (λ (l : List K). length (l ++ picked events ps)) o.1 ∙ ap suc (length_picked ps (λ k h. w (suc k) (omega arith)))
 
-  pub get_d_picked : (ps : List ℕ) → Within ps (length events) → (k : ℕ) (d : K) → k < length ps → get_or (picked events ps) k d ≡ get_or events (get_or ps k 0) d
-  get_d_picked [] w k d h = absurd (omega arith)
-  get_d_picked (p ∷ ps) w zero d h =
+  pub get_or_picked : (ps : List ℕ) → Within ps (length events) → (k : ℕ) (d : K) → k < length ps → get_or (picked events ps) k d ≡ get_or events (get_or ps k 0) d
+  get_or_picked [] w k d h = absurd (omega arith)
+  get_or_picked (p ∷ ps) w zero d h =
       let o = one_at events p (w 0 (omega arith)) in
       ap (λ (l : List K). get_or (l ++ picked events ps) 0 d) o.1 ∙ sym (o.2 d)
-  get_d_picked (p ∷ ps) w (suc k) d h =
+  get_or_picked (p ∷ ps) w (suc k) d h =
       let o = one_at events p (w 0 (omega arith)) in
-      ap (λ (l : List K). get_or (l ++ picked events ps) (suc k) d) o.1 ∙ get_d_picked ps (λ i b. w (suc i) (omega arith)) k d (omega arith)
+      ap (λ (l : List K). get_or (l ++ picked events ps) (suc k) d) o.1 ∙ get_or_picked ps (λ i b. w (suc i) (omega arith)) k d (omega arith)
 
   -- what is read at one of the places
   pub read_picked : (ps : List ℕ) → Within ps (length events) → (k : ℕ) → k < length ps → (x : K) → x ≡ get_or events (get_or ps k 0) x → (d : K) → get_or (picked events ps) k d ≡ x
-  read_picked ps w k h x is d = get_d_picked ps w k d h ∙ sym (get_or_read events (get_or ps k 0) x (w k h) is d)
+  read_picked ps w k h x is d = get_or_picked ps w k d h ∙ sym (get_or_read events (get_or ps k 0) x (w k h) is d)
 
   take_picked : (n : ℕ) (ps : List ℕ) → Within ps (length events) → picked events (take n ps) ≡ take n (picked events ps)
   take_picked zero ps w = refl

@@ -1,5 +1,5 @@
 -- When a tape includes a pattern.
--- In `get_or xs i d`, d is what stands past the end; each i here is within.
+-- In `slice_index_or xs i d`, d is what stands past the end; each i here is within.
 use Rattle.std.specs.Prelude.{◌≡◌, ℕ, ◌+◌, ◌<◌, Bool, true, cond, List, [], ◌∷◌, length, drop, is_some, Some, None, Option, slice_index, slice_index_or}
 use Rattle.event.specs.declared.order.Order.{Order}
 use Rattle.event.specs.declared.order.Order.TheVariants.{Alike}

@@ -1,5 +1,5 @@
 -- The lexicon that is learned from events: one event for each class of alike events, in rising order.
--- In `get_or xs i d`, d is what stands past the end; each i here is within.
+-- In `slice_index_or xs i d`, d is what stands past the end; each i here is within.
 use Rattle.std.specs.Prelude.{◌≡◌, ℕ, ◌<◌, ◌&&◌, List, [], ◌∷◌, ◌++◌, length, drop, Some, None, Option, ◌≢◌, nat_le, slice_index_or}
 use Rattle.event.specs.declared.order.Order.{Order}
 use Rattle.event.specs.declared.order.Order.TheVariants.{Before, Alike, After}

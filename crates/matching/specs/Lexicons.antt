@@ -1,5 +1,5 @@
 -- Lexicons: rows of events, each before the next.
--- In `get_or xs i d`, d is what stands past the end; each i here is within.
+-- In `slice_index_or xs i d`, d is what stands past the end; each i here is within.
 use Rattle.std.specs.Prelude.{◌≡◌, ℕ, ◌<◌, Bool, true, ◌&&◌, List, [], ◌∷◌, length, slice_index_or}
 use Rattle.event.specs.declared.order.Order.{Order}
 use Rattle.event.specs.declared.order.Order.TheVariants.{Before}

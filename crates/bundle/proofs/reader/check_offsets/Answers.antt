@@ -7,7 +7,7 @@ use Rattle.bundle.specs.Offsets.{right_offset, right_at, wrong_offset}
 use Rattle.bundle.proofs.Parts.{four_small}
 use Rattle.bundle.proofs.Verdicts.{fails_at, passes}
 use Rattle.bundle.proofs.Lowest.{wrong_from, lowest_all, wrong_first, wrong_on, wrong_here}
-use Rattle.bundle.proofs.Rows.{length_offsets, get_d_offsets}
+use Rattle.bundle.proofs.Rows.{length_offsets, get_or_offsets}
 use Rattle.bundle.proofs.reader.check_offsets.Goals as goal
 
 -- one turn, over the counts that were read
@@ -16,7 +16,7 @@ module _ (file : List ℕ) (counts : ℕ × ℕ) (read : counts ≡ (tapes_in fi
   tapes_read = ap (λ (p : ℕ × ℕ). p.0) read
 
   here_is : here ≡ get_or (offsets_in file) i 0
-  here_is = at ∙ sym (get_d_offsets file i (omega (arith, tapes_read)))
+  here_is = at ∙ sym (get_or_offsets file i (omega (arith, tapes_read)))
 
   inside : i < length (offsets_in file)
   inside = omega (arith, tapes_read, length_offsets file)
@@ -59,7 +59,7 @@ loop-index-preserved c =
     let i = c.loop-index.index in
     let same : i + 1 - 1 ≡ i = omega arith in
     let tapes = ap (λ (p : ℕ × ℕ). p.0) c.counts-tapes.ensures in
-    ((λ h. c.offset_at-here.ensures ∙ sym (ap (λ (k : ℕ). get_or (offsets_in file) k 0) same ∙ get_d_offsets file i (omega arith))), goes_on file c.counts-tapes.result c.counts-tapes.ensures i c.loop-index.before c.offset_at-here.result c.loop-index-test.true c.loop-index.invariant.0 c.offset_at-here.ensures c.if-not-is_right.ensures ∙ c.loop-index.invariant.1)
+    ((λ h. c.offset_at-here.ensures ∙ sym (ap (λ (k : ℕ). get_or (offsets_in file) k 0) same ∙ get_or_offsets file i (omega arith))), goes_on file c.counts-tapes.result c.counts-tapes.ensures i c.loop-index.before c.offset_at-here.result c.loop-index-test.true c.loop-index.invariant.0 c.offset_at-here.ensures c.if-not-is_right.ensures ∙ c.loop-index.invariant.1)
 
 pub returns : goal.returns
 returns c =
