@@ -54,11 +54,11 @@ impl Kind for Scanner {
     ghost read_back = { reads_back };
 
     fn kind_number() -> u16 {
-        <Scanner as Kind>::NUMBER
+        Self::NUMBER
     }
 
     fn event_width() -> usize {
-        <Scanner as Kind>::WIDTH
+        Self::WIDTH
     }
 
     fn compare(&self, other: &Self) -> Order {

@@ -89,11 +89,11 @@ impl Kind for Station {
     ghost read_back = { reads_back };
 
     fn kind_number() -> u16 {
-        <Station as Kind>::NUMBER
+        Self::NUMBER
     }
 
     fn event_width() -> usize {
-        <Station as Kind>::WIDTH
+        Self::WIDTH
     }
 
     fn compare(&self, other: &Self) -> Order {
