@@ -2,7 +2,7 @@
 use Rattle.std.specs.Prelude.{ℕ, ◌+◌, ◌-◌, ◌/◌, ◌%◌, cond, List, [], ◌∷◌, ◌++◌, length, take, drop, Some, None, codes, decimal, Option, nat_le, nat_lt}
 use Rattle.std.specs.List.{flat_map}
 use Rattle.line.specs.declared.piece.Word.{Word}
-use Rattle.line.specs.declared.piece.Word.TheVariants.{Tapes, Events, Threshold, Length, End, Refused, Query, Bundle, Space, Dash, LineFeed}
+use Rattle.line.specs.declared.piece.Word.TheVariants.{Tapes, Events, Threshold, Length, Refused, Query, Bundle, Space, Dash, LineFeed}
 use Rattle.line.specs.declared.piece.Piece.{Piece}
 use Rattle.line.specs.declared.piece.Piece.TheVariants as piece
 
@@ -29,7 +29,6 @@ word_text Tapes = codes "tapes "
 word_text Events = codes " events "
 word_text Threshold = codes " threshold "
 word_text Length = codes " length "
-word_text End = codes "end "
 word_text Refused = codes "refused "
 word_text Query = codes " query "
 word_text Bundle = codes " bundle "

@@ -11,6 +11,9 @@ use line::piece::{Piece, Word};
 use line::writer::write_line;
 use query::line::Query;
 
+// What the line behind the last pattern begins with; it is no word of the other lines.
+const END: &[u8; 4] = b"end ";
+
 // Each of these writes a line with its line feed at a row's front and returns its length; where it has no room, ROOM, and the row stays.
 
 /// The line of what was read: the counts of the bundle, and the numbers of the query.
@@ -56,12 +59,13 @@ pub fn write_end(count: u32, row: &mut [u8]) -> Result<usize, Refusal>
     ensures answer { result ≡ written (length (end_text count)) (length row.old) }
     ensures after { row.new ≡ laid (end_text count) row.old }
 {
-    let pieces = [
-        Piece::Word(Word::End),
-        Piece::Number(count.into()),
-        Piece::Word(Word::LineFeed),
-    ];
-    write_line::<Scanner>(&pieces, &[], &[], row)
+    if row.len() < END.len() {
+        return Err(Refusal::Room);
+    }
+    let pieces = [Piece::Number(count.into()), Piece::Word(Word::LineFeed)];
+    let behind = write_line::<Scanner>(&pieces, &[], &[], &mut row[END.len()..])?;
+    row[0..END.len()].copy_from_slice(END);
+    Ok(END.len() + behind)
 }
 
 // The word for the input at fault.
