@@ -1,10 +1,18 @@
 use Rattle.std.specs.Prelude.{◌≡◌, ℕ, min, max, Bool, true, false, cond, Some, None, Option, nat_lt}
 use Rattle.event.specs.declared.order.Order.{Order}
 use Rattle.event.specs.declared.order.Order.TheVariants.{Before, Alike, After}
+use Rattle.std.specs.declared.cmp.Ordering.{Ordering}
+use Rattle.std.specs.declared.cmp.Ordering.TheVariants.{Less, Equal, Greater}
 
 -- the number from low to high that is nearest to n
 abbrev pub nearest : ℕ → ℕ → ℕ → ℕ
 nearest low high n = max (min n high) low
+
+-- the library's answers, in the words of events
+abbrev pub order_from : Ordering → Order
+order_from Less = Before
+order_from Equal = Alike
+order_from Greater = After
 
 -- two numbers compared
 abbrev pub compared : ℕ → ℕ → Order

@@ -9,22 +9,20 @@ pub fn decimal_length(n: u64) -> usize
     ensures value { result ≡ length (decimal n) }
     ensures bound { result ≤ 20 }
 {
-    if n < 10 {
-        1
-    } else {
-        decimal_length(n / 10) + 1
-    }
+    n.checked_ilog10().unwrap_or(0) as usize + 1
 }
 
-// Fills a row with a number's digits.
+// Fills a row with a number's digits. A `write!` may stop half-way; a row without room has to stay as it was.
 fn put_digits(n: u64, row: &mut [u8])
     requires { length row.old ≡ length (decimal n) }
     ensures { row.new ≡ decimal n }
 {
-    let last = row.len() - 1;
-    row[last] = b'0' + (n % 10) as u8;
+    let Some((last, front)) = row.split_last_mut() else {
+        return;
+    };
+    *last = b'0' + (n % 10) as u8;
     if n >= 10 {
-        put_digits(n / 10, &mut row[0..last]);
+        put_digits(n / 10, front);
     }
 }
 
@@ -42,13 +40,14 @@ pub fn write_decimal(n: u64, row: &mut [u8]) -> Result<usize, Refusal>
 }
 
 /// The number that digits write, leading zeros among them; none past a limit, and none at what is no digit.
+// The library's parse takes a sign too, and takes text.
 pub fn read_digits(bytes: &[u8], most: u16) -> Option<u16>
     ensures value { result ≡ read_from most 0 bytes.now }
     ensures bound { IfSome result (λ v. v ≤ most) }
 {
     let mut value: u16 = 0;
     for b in bytes {
-        if *b < b'0' || *b > b'9' {
+        if !b.is_ascii_digit() {
             return None;
         }
         let next = u32::from(value) * 10 + u32::from(*b - b'0');

@@ -17,9 +17,9 @@ pub trait Kind: Copy {
     const WIDTH: usize;
 
     // The two constants, for contracts of generic code.
-    ghost number: { ℕ };
+    ghost NUMBER: { ℕ };
 
-    ghost width: { ℕ };
+    ghost WIDTH: { ℕ };
 
     // How two events stand to each other.
     ghost order: { Self → Self → Order };
@@ -32,14 +32,6 @@ pub trait Kind: Copy {
 
     // The event that a label stands for, or none.
     ghost labelled: { List ℕ → Option Self };
-
-    /// `NUMBER`.
-    fn kind_number() -> u16
-        ensures { result ≡ number };
-
-    /// `WIDTH`.
-    fn event_width() -> usize
-        ensures { result ≡ width };
 
     /// How this event stands to another.
     fn compare(&self, other: &Self) -> Order

@@ -1,7 +1,9 @@
 ghost use Rattle.std.specs.Prelude.{◌≡◌};
-ghost use Rattle.event.specs.Orders.{compared, first_then};
+ghost use Rattle.event.specs.Orders.{compared, first_then, order_from};
 
-/// How one event stands to another.
+use std::cmp::Ordering;
+
+/// How one event stands to another. Events that are alike need not be equal, so this is not the library's order of equal values.
 #[derive(Clone, Copy, Debug, PartialEq, Eq)]
 pub enum Order {
     Before,
@@ -9,18 +11,23 @@ pub enum Order {
     After,
 }
 
+impl From<Ordering> for Order {
+    ghost from_gives = { λ o r. r ≡ order_from o };
+
+    fn from(ordering: Ordering) -> Order {
+        match ordering {
+            Ordering::Less => Order::Before,
+            Ordering::Equal => Order::Alike,
+            Ordering::Greater => Order::After,
+        }
+    }
+}
+
 /// Compares two numbers.
 pub fn compare_numbers(a: u16, b: u16) -> Order
     ensures { result ≡ compared a b }
 {
-    // whether two events are alike is asked most, so that comes first
-    if a == b {
-        Order::Alike
-    } else if a < b {
-        Order::Before
-    } else {
-        Order::After
-    }
+    a.cmp(&b).into()
 }
 
 impl Order {
@@ -29,9 +36,8 @@ impl Order {
         ensures { result ≡ first_then self next }
     {
         match self {
-            Order::Before => Order::Before,
             Order::Alike => next,
-            Order::After => Order::After,
+            Order::Before | Order::After => self,
         }
     }
 }

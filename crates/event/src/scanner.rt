@@ -33,9 +33,9 @@ impl Kind for Scanner {
 
     const WIDTH: usize = 2;
 
-    ghost number = { 1 };
+    ghost NUMBER = { 1 };
 
-    ghost width = { 2 };
+    ghost WIDTH = { 2 };
 
     ghost order = { order_of };
 
@@ -53,14 +53,6 @@ impl Kind for Scanner {
 
     ghost read_back = { reads_back };
 
-    fn kind_number() -> u16 {
-        Self::NUMBER
-    }
-
-    fn event_width() -> usize {
-        Self::WIDTH
-    }
-
     fn compare(&self, other: &Self) -> Order {
         compare_numbers(self.nearest_code(), other.nearest_code())
     }
@@ -69,7 +61,7 @@ impl Kind for Scanner {
         let [high, low] = bytes else {
             return Err(Refusal::Event);
         };
-        let code = u16::from(*high) * 256 + u16::from(*low);
+        let code = u16::from_be_bytes([*high, *low]);
         if code > MOST_CODE {
             return Err(Refusal::Event);
         }
@@ -85,10 +77,8 @@ impl Kind for Scanner {
     }
 
     fn read_label(bytes: &[u8]) -> Result<Self, Refusal> {
-        match read_numeral(bytes, MOST_CODE) {
-            Some(code) => Ok(Scanner { code }),
-            None => Err(Refusal::Mark),
-        }
+        let code = read_numeral(bytes, MOST_CODE).ok_or(Refusal::Mark)?;
+        Ok(Scanner { code })
     }
 }
 

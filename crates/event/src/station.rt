@@ -29,7 +29,7 @@ impl Station {
     pub fn nearest_action(&self) -> u8
         ensures { result ≡ action_of self.now }
     {
-        self.action.min(MOST_ACTION).max(1)
+        self.action.clamp(1, MOST_ACTION)
     }
 
     /// The outcome that the record stands for.
@@ -39,6 +39,8 @@ impl Station {
         self.outcome.min(MOST_OUTCOME)
     }
 }
+
+// A record holds its outcome as a number, and a caller may have filled in any; an enum would be converted both ways.
 
 // An outcome's letter.
 fn letter(outcome: u8) -> u8
@@ -68,9 +70,9 @@ impl Kind for Station {
 
     const WIDTH: usize = 4;
 
-    ghost number = { 2 };
+    ghost NUMBER = { 2 };
 
-    ghost width = { 4 };
+    ghost WIDTH = { 4 };
 
     ghost order = { order_of };
 
@@ -87,14 +89,6 @@ impl Kind for Station {
     ghost carried = { Prim.search rules };
 
     ghost read_back = { reads_back };
-
-    fn kind_number() -> u16 {
-        Self::NUMBER
-    }
-
-    fn event_width() -> usize {
-        Self::WIDTH
-    }
 
     fn compare(&self, other: &Self) -> Order {
         let action = compare_numbers(self.nearest_action().into(), other.nearest_action().into());
@@ -115,7 +109,7 @@ impl Kind for Station {
         Ok(Station {
             action: *action,
             outcome: *outcome,
-            station: u16::from(*high) * 256 + u16::from(*low),
+            station: u16::from_be_bytes([*high, *low]),
         })
     }
 
@@ -138,9 +132,7 @@ impl Kind for Station {
         let [front @ .., b':', mark] = bytes else {
             return Err(Refusal::Mark);
         };
-        let Some(outcome) = outcome(*mark) else {
-            return Err(Refusal::Mark);
-        };
+        let outcome = outcome(*mark).ok_or(Refusal::Mark)?;
         match read_numeral(front, MOST_ACTION.into()) {
             Some(action) if action >= 1 => Ok(Station {
                 action: action as u8,
