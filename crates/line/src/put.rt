@@ -34,6 +34,7 @@ fn put_label<K: Kind>(event: &K, row: &mut [u8]) -> usize
     event.write_label(row).unwrap_or(0)
 }
 
+// By hand: the library's `from_digit` gives lower-case digits, as a `char` that may be none.
 fn hex_digit(n: u8) -> u8
     requires { n < 16 }
     ensures { result ≡ hex_digit n }
@@ -49,6 +50,7 @@ fn put_pair(b: u8, row: &mut [u8]) -> usize
     put_bytes(&[hex_digit(b / 16), hex_digit(b % 16)], row)
 }
 
+// One loop for this, `put_others` and `put_line` would take a closure, with a contract longer than the three loops.
 fn put_hex(bytes: &[u8], row: &mut [u8]) -> usize
     requires { length (flat_map hex_pair bytes.now) ≤ length row.old }
     ensures value { result ≡ length (flat_map hex_pair bytes.now) }

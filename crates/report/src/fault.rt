@@ -123,6 +123,7 @@ impl ListerFault {
 pub fn bytes_at_fault<'a>(fault: &ListerFault, query: &'a [u8], bundle: &'a [u8]) -> &'a [u8]
     ensures { result.now ≡ bytes_at_fault fault.now query.now bundle.now }
 {
+    // both inputs are lent, and the fault decides which of them the part comes from
     match fault.source() {
         Source::Query => part(query, fault.place()),
         Source::Bundle => part(bundle, fault.place()),

@@ -79,7 +79,7 @@ pub fn append<K: Kind>(
 {
     loop {
         match line.write(row.as_mut_slice()) {
-            Ok(count) => return text.extend_from_slice(&row[0..count]),
+            Ok(count) => return text.extend_from_slice(&row[..count]),
             Err(_) => grow(row)?,
         }
     }
