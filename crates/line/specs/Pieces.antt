@@ -1,8 +1,8 @@
 -- What the pieces of a line write.
-use Rattle.std.specs.Prelude.{ℕ, ◌+◌, ◌-◌, ◌/◌, ◌%◌, cond, List, [], ◌∷◌, ◌++◌, length, take, drop, Some, None, codes, decimal, Option, nat_le, nat_lt}
+use Rattle.std.specs.Prelude.{ℕ, ◌+◌, ◌-◌, ◌/◌, ◌%◌, cond, List, [], ◌∷◌, ◌++◌, Some, None, codes, decimal, Option, nat_le, nat_lt}
 use Rattle.std.specs.List.{flat_map}
 use Rattle.line.specs.declared.piece.Word.{Word}
-use Rattle.line.specs.declared.piece.Word.TheVariants.{Tapes, Events, Threshold, Length, Refused, Query, Bundle, Space, Dash, LineFeed}
+use Rattle.line.specs.declared.piece.Word.TheVariants.{Tapes, Events, Threshold, Length, Refused, Query, Bundle, End, Space, Dash, LineFeed}
 use Rattle.line.specs.declared.piece.Piece.{Piece}
 use Rattle.line.specs.declared.piece.Piece.TheVariants as piece
 
@@ -32,25 +32,22 @@ word_text Length = codes " length "
 word_text Refused = codes "refused "
 word_text Query = codes " query "
 word_text Bundle = codes " bundle "
+word_text End = codes "end "
 word_text Space = codes " "
 word_text Dash = codes "-"
 word_text LineFeed = codes "\n"
 
--- the text of a piece, with the bytes and the events that are given
-abbrev pub piece_text : {K : Type 0} → (K → List ℕ) → List ℕ → List K → Piece → List ℕ
-piece_text label bytes events (piece.Word w) = word_text w
-piece_text label bytes events (piece.Number n) = decimal n
-piece_text label bytes events piece.Bytes = flat_map hex_pair bytes
-piece_text label bytes events piece.Labels = parted label events
+-- the text of a piece
+abbrev pub piece_text : {K : Type 0} → (K → List ℕ) → Piece K → List ℕ
+piece_text label (piece.Word w) = word_text w
+piece_text label (piece.Number n) = decimal n
+piece_text label (piece.Bytes bytes) = flat_map hex_pair bytes.now
+piece_text label (piece.Labels events) = parted label events.now
 
 -- the text of a line
-abbrev pub line_text : {K : Type 0} → (K → List ℕ) → List ℕ → List K → List Piece → List ℕ
-line_text label bytes events pieces = flat_map (piece_text label bytes events) pieces
+abbrev pub line_text : {K : Type 0} → (K → List ℕ) → List (Piece K) → List ℕ
+line_text label pieces = flat_map (piece_text label) pieces
 
 -- what so many bytes leave of a room, if they fit
 abbrev pub left : ℕ → ℕ → Option ℕ
 left room n = cond (nat_le n room) (Some (room - n)) None
-
--- a row after some bytes were put at a place
-abbrev pub put_at : ℕ → List ℕ → List ℕ → List ℕ
-put_at place bytes row = take place row ++ (bytes ++ drop (place + length bytes) row)

@@ -11,38 +11,42 @@ pub enum Word {
     Refused,
     Query,
     Bundle,
+    End,
     Space,
     Dash,
     LineFeed,
 }
 
-/// A piece of a line. What is no word or number comes from the bytes or the events that are given with the line.
+/// A piece of a line.
 #[derive(Clone, Copy)]
-pub enum Piece {
+pub enum Piece<'a, K> {
     /// A word.
     Word(Word),
     /// A number in decimal.
     Number(u64),
-    /// The given bytes as pairs of upper-case hexadecimal digits.
-    Bytes,
-    /// The labels of the given events, parted by spaces.
-    Labels,
+    /// Bytes as pairs of upper-case hexadecimal digits.
+    Bytes(&'a [u8]),
+    /// Labels of events, parted by spaces.
+    Labels(&'a [K]),
 }
 
-// The text of a word.
-pub(crate) fn word_text(word: Word) -> &'static [u8]
-    ensures { result.now ≡ word_text word }
-{
-    match word {
-        Word::Tapes => b"tapes ",
-        Word::Events => b" events ",
-        Word::Threshold => b" threshold ",
-        Word::Length => b" length ",
-        Word::Refused => b"refused ",
-        Word::Query => b" query ",
-        Word::Bundle => b" bundle ",
-        Word::Space => b" ",
-        Word::Dash => b"-",
-        Word::LineFeed => b"\n",
+impl Word {
+    // The word's text.
+    pub(crate) fn text(self) -> &'static [u8]
+        ensures { result.now ≡ word_text self }
+    {
+        match self {
+            Word::Tapes => b"tapes ",
+            Word::Events => b" events ",
+            Word::Threshold => b" threshold ",
+            Word::Length => b" length ",
+            Word::Refused => b"refused ",
+            Word::Query => b" query ",
+            Word::Bundle => b" bundle ",
+            Word::End => b"end ",
+            Word::Space => b" ",
+            Word::Dash => b"-",
+            Word::LineFeed => b"\n",
+        }
     }
 }

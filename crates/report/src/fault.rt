@@ -1,10 +1,13 @@
 ghost use Rattle.std.specs.Prelude.{◌≡◌};
-ghost use Rattle.report.specs.Faults.{refusal_of, refused_source, source_of, span_of, bytes_at_fault};
+ghost use Rattle.report.specs.Faults.{refusal_of, refused_source, source_of, span_of, place_of, bytes_at_fault};
+ghost use Rattle.report.specs.Texts.{source_text};
+ghost use Rattle.line.specs.Pieces.{word_text};
 ghost use Rattle.report.specs.declared.fault.ListerFault.TheVariants as lister;
 
 use bundle::fault::BundleFault;
 use event::refusal::Refusal;
 use event::span::{Span, part};
+use line::piece::Word;
 use query::line::QueryFault;
 
 /// Why the lister refuses: the fault of the layer below, whole.
@@ -44,6 +47,18 @@ impl From<Refusal> for ListerFault {
 
     fn from(refusal: Refusal) -> ListerFault {
         ListerFault::Session(refusal)
+    }
+}
+
+impl From<Source> for Word {
+    ghost from_gives = { λ s r. word_text r ≡ source_text s };
+
+    // The word for the input at fault.
+    fn from(source: Source) -> Word {
+        match source {
+            Source::Query => Word::Query,
+            Source::Bundle => Word::Bundle,
+        }
     }
 }
 
@@ -92,21 +107,25 @@ impl ListerFault {
             ListerFault::Session(_) => None,
         }
     }
+
+    // The place that is written: of the bytes at fault, or 0.
+    pub(crate) fn place(&self) -> Span
+        ensures { result ≡ place_of self.now }
+    {
+        self.span().unwrap_or(Span {
+            start: 0,
+            length: 0,
+        })
+    }
 }
 
 /// The bytes at fault, as a part of the query line or of the bundle.
 pub fn bytes_at_fault<'a>(fault: &ListerFault, query: &'a [u8], bundle: &'a [u8]) -> &'a [u8]
     ensures { result.now ≡ bytes_at_fault fault.now query.now bundle.now }
 {
-    let span = match fault.span() {
-        Some(span) => span,
-        None => Span {
-            start: 0,
-            length: 0,
-        },
-    };
+    // both inputs are lent, and the fault decides which of them the part comes from
     match fault.source() {
-        Source::Query => part(query, span),
-        Source::Bundle => part(bundle, span),
+        Source::Query => part(query, fault.place()),
+        Source::Bundle => part(bundle, fault.place()),
     }
 }

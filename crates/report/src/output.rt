@@ -1,4 +1,4 @@
-ghost use Rattle.std.specs.Prelude.{◌≡◌, ◌<◌, ◌++◌, length, vec_len, OnOk};
+ghost use Rattle.std.specs.Prelude.{◌≡◌, ℕ, ◌<◌, List, [], ◌++◌, length, vec_len, OnOk};
 ghost use Rattle.event.specs.Rows.{written, laid};
 ghost use Rattle.report.specs.Lines.{text_of};
 
@@ -7,7 +7,8 @@ use crate::text::{write_end, write_head, write_pattern, write_refused};
 use event::kind::Kind;
 use event::refusal::Refusal;
 use query::line::Query;
-use std::alloc::AllocError;
+use std::alloc::{AllocError, Global};
+use std::marker::Model;
 
 /// A line that the lister writes.
 #[derive(Clone, Copy)]
@@ -41,19 +42,19 @@ impl<'a, K: Kind> Line<'a, K> {
         ensures answer { result ≡ written (length (text_of K.Kind.label self.now)) (length row.old) }
         ensures after { row.new ≡ laid (text_of K.Kind.label self.now) row.old }
     {
-        match self {
+        match *self {
             Line::Head {
                 tapes,
                 events,
                 query,
-            } => write_head(*tapes, *events, *query, row),
-            Line::Pattern { support, pattern } => write_pattern(*support, *pattern, row),
-            Line::End { count } => write_end(*count, row),
+            } => write_head(tapes, events, query, row),
+            Line::Pattern { support, pattern } => write_pattern(support, pattern, row),
+            Line::End { count } => write_end(count, row),
             Line::Refused {
                 fault,
                 query,
                 bundle,
-            } => write_refused(*fault, *query, *bundle, row),
+            } => write_refused(fault, query, bundle, row),
         }
     }
 }
@@ -65,10 +66,7 @@ const GROWTH: usize = 4096;
 fn grow(row: &mut Vec<u8>) -> Result<(), AllocError>
     ensures { OnOk result (vec_len row.old < vec_len row.new) }
 {
-    let Some(longer) = row.len().checked_add(GROWTH) else {
-        return Err(AllocError);
-    };
-    row.resize(longer, 0)
+    row.resize(row.len() + GROWTH, 0)
 }
 
 /// Appends a line to a text. The row is where it is written first, and grows to the longest line.
@@ -81,8 +79,47 @@ pub fn append<K: Kind>(
 {
     loop {
         match line.write(row.as_mut_slice()) {
-            Ok(count) => return text.extend_from_slice(&row[0..count]),
+            Ok(count) => return text.extend_from_slice(&row[..count]),
             Err(_) => grow(row)?,
         }
+    }
+}
+
+/// A text of lines, with the row where each line is written first.
+#[derive(Drop)]
+pub struct Page {
+    text: Vec<u8>,
+    row: Vec<u8>,
+}
+
+impl Model for Page {
+    ghost Value = { List ℕ };
+
+    ghost view = { λ page. page.text.items };
+}
+
+impl Page {
+    /// An empty text.
+    pub fn new(heap: Global) -> Page
+        ensures { result ≡ [] }
+    {
+        Page {
+            text: Vec::new(heap),
+            row: Vec::new(heap),
+        }
+    }
+
+    /// Appends a line.
+    pub fn append<K: Kind>(&mut self, line: &Line<'_, K>) -> Result<(), AllocError>
+        ensures { OnOk result (self.new ≡ self.old ++ text_of K.Kind.label line.now) }
+    {
+        append(line, &mut self.row, &mut self.text)
+    }
+
+    /// The text.
+    pub fn into_text(self) -> Vec<u8>
+        ensures { result.items ≡ self }
+    {
+        self.text
     }
 }

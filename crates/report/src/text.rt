@@ -1,18 +1,14 @@
 ghost use Rattle.std.specs.Prelude.{◌≡◌, length};
 ghost use Rattle.event.specs.Rows.{written, laid};
-ghost use Rattle.line.specs.Pieces.{word_text};
-ghost use Rattle.report.specs.Texts.{head_text, pattern_text, end_text, source_text, shown, refused_text};
+ghost use Rattle.report.specs.Texts.{head_text, pattern_text, end_text, shown, refused_text};
 
-use crate::fault::{ListerFault, Source, bytes_at_fault};
+use crate::fault::{ListerFault, bytes_at_fault};
 use event::kind::Kind;
 use event::refusal::Refusal;
 use event::scanner::Scanner;
 use line::piece::{Piece, Word};
 use line::writer::write_line;
 use query::line::Query;
-
-// What the line behind the last pattern begins with; it is no word of the other lines.
-const END: &[u8; 4] = b"end ";
 
 // Each of these writes a line with its line feed at a row's front and returns its length; where it has no room, ROOM, and the row stays.
 
@@ -37,7 +33,7 @@ pub fn write_head(
         Piece::Number(query.longest.into()),
         Piece::Word(Word::LineFeed),
     ];
-    write_line::<Scanner>(&pieces, &[], &[], row)
+    write_line::<Scanner>(&pieces, row)
 }
 
 /// The line of a pattern: its support, and its labels parted by spaces.
@@ -48,10 +44,10 @@ pub fn write_pattern<K: Kind>(support: u32, pattern: &[K], row: &mut [u8]) -> Re
     let pieces = [
         Piece::Number(support.into()),
         Piece::Word(Word::Space),
-        Piece::Labels,
+        Piece::Labels(pattern),
         Piece::Word(Word::LineFeed),
     ];
-    write_line(&pieces, &[], pattern, row)
+    write_line(&pieces, row)
 }
 
 /// The line behind the last pattern: how many there were.
@@ -59,23 +55,12 @@ pub fn write_end(count: u32, row: &mut [u8]) -> Result<usize, Refusal>
     ensures answer { result ≡ written (length (end_text count)) (length row.old) }
     ensures after { row.new ≡ laid (end_text count) row.old }
 {
-    if row.len() < END.len() {
-        return Err(Refusal::Room);
-    }
-    let pieces = [Piece::Number(count.into()), Piece::Word(Word::LineFeed)];
-    let behind = write_line::<Scanner>(&pieces, &[], &[], &mut row[END.len()..])?;
-    row[0..END.len()].copy_from_slice(END);
-    Ok(END.len() + behind)
-}
-
-// The word for the input at fault.
-fn source_word(source: Source) -> Word
-    ensures { word_text result ≡ source_text source }
-{
-    match source {
-        Source::Query => Word::Query,
-        Source::Bundle => Word::Bundle,
-    }
+    let pieces = [
+        Piece::Word(Word::End),
+        Piece::Number(count.into()),
+        Piece::Word(Word::LineFeed),
+    ];
+    write_line::<Scanner>(&pieces, row)
 }
 
 /// The line of a refusal: its number, the input at fault, the place there, and the bytes at fault.
@@ -88,24 +73,21 @@ pub fn write_refused(
     ensures answer { result ≡ written (length (refused_text fault.now query.now bundle.now)) (length row.old) }
     ensures after { row.new ≡ laid (refused_text fault.now query.now bundle.now) row.old }
 {
-    let place = match fault.span() {
-        Some(span) => span.start,
-        None => 0,
-    };
+    let place = fault.place();
     let bytes = bytes_at_fault(fault, query, bundle);
     let shown = if bytes.is_empty() {
         Piece::Word(Word::Dash)
     } else {
-        Piece::Bytes
+        Piece::Bytes(bytes)
     };
     let pieces = [
         Piece::Word(Word::Refused),
         Piece::Number(fault.refusal().number().into()),
-        Piece::Word(source_word(fault.source())),
-        Piece::Number(place as u64),
+        Piece::Word(fault.source().into()),
+        Piece::Number(place.start as u64),
         Piece::Word(Word::Space),
         shown,
         Piece::Word(Word::LineFeed),
     ];
-    write_line::<Scanner>(&pieces, bytes, &[], row)
+    write_line::<Scanner>(&pieces, row)
 }
