@@ -37,24 +37,19 @@ module _ {K : Type 0} (events : List K) where
   none : (from to : ℕ) → to ≤ from → between events from to ≡ []
   none from to h = ap (λ (n : ℕ). take n (drop from events)) (let e : to - from ≡ 0 = omega arith in e)
 
-  -- cuts past the events are cuts at their end
-  pub between_within : (from to a b : ℕ) → a ≡ min from (length events) → b ≡ min to (length events) → between events a b ≡ between events from to
-  between_within from to a b ea eb =
+  -- cuts past the events are cuts at their end, and where they cross, nothing is between
+  pub between_within : (from to a b : ℕ) → b ≡ min to (length events) → a ≡ min from b → between events a b ≡ between events from to
+  between_within from to a b eb ea =
       ⊎_elim
-      (λ (h : from < length events).
+      (λ (h : from < b).
       let e : a ≡ from = omega arith in
       ap (λ (n : ℕ). take (b - n) (drop n events)) e ∙ ⊎_elim
       (λ (k : to < length events). ap (λ (n : ℕ). take (n - from) (drop from events)) (let f : b ≡ to = omega arith in f))
       (λ (k : length events ≤ to). let l = length-drop from events in take_all (b - from) (drop from events) (omega arith) ∙ sym (take_all (to - from) (drop from events) (omega arith)))
       (cases_lt to (length events)))
-      (λ (h : length events ≤ from).
-      let x : drop a events ≡ [] = drop_all a events (omega arith) in
-      let y : drop from events ≡ [] = drop_all from events h in
-      let m = length-drop a events in
-      let n = length-drop from events in
-      take_all (b - a) (drop a events) (omega arith) ∙ x ∙ sym y ∙ sym (take_all (to - from) (drop from events) (omega arith)))
-      (cases_lt from (length events))
-
-  -- where they cross, nothing is between
-  pub between_crossed : (from to a b : ℕ) → a ≡ min from (length events) → b ≡ min to (length events) → b < a → [] ≡ between events from to
-  between_crossed from to a b ea eb h = sym (none from to (omega arith))
+      (λ (h : b ≤ from).
+      none a b (omega arith) ∙ sym (⊎_elim
+      (λ (k : from < to). let l = length-drop from events in take_all (to - from) (drop from events) (omega arith) ∙ drop_all from events (omega arith))
+      (λ (k : to ≤ from). none from to k)
+      (cases_lt from to)))
+      (cases_lt from b)

@@ -1,8 +1,8 @@
 -- Offsets with no wrong one are lawful, and lawful ones have no wrong one.
-use Rattle.std.proofs.Common.{◌≡◌, ℕ, zero, suc, ◌+◌, ◌-◌, ◌<◌, ◌≤◌, Bool, true, false, cond, not, List, [], ◌∷◌, length, get_or, Some, None, Option, refl, ap, ◌∙◌, ⊎_elim, arith}
-use Rattle.std.proofs.lemmas.Bool.{cases_eq, not-false, not_from_true, cond-false}
-use Rattle.std.proofs.lemmas.Bool.Decides.{nat_tests}
-use Rattle.bundle.specs.Offsets.{lowest, right_at, wrong_offset, LawfulOffsets}
+use Rattle.std.proofs.Common.{◌≡◌, ℕ, zero, suc, ◌+◌, ◌-◌, ◌<◌, ◌≤◌, Bool, true, false, cond, not, List, [], ◌∷◌, eqb, length, get_or, Some, None, Option, sym, refl, ap, ◌∙◌, ⊎_elim, arith}
+use Rattle.std.proofs.lemmas.Bool.{cases_eq, and_parts, and_from, eqb-true, eq-eqb, ne_eqb, leb-true, le-leb, not-false, not_from_true, cond-false}
+use Rattle.std.specs.Bool.{then_some}
+use Rattle.bundle.specs.Offsets.{lowest, begins, ends, right_at, wrong_offset, LawfulOffsets}
 
 -- a first number that is not there did not pass
 first_none : (b : Bool) (i : ℕ) (o : Option ℕ) → cond b (Some i) o ≡ None → (b ≡ false) × (o ≡ None)
@@ -25,11 +25,32 @@ none_lowest test i (suc n) h =
     cond-false (test i) (Some i) (lowest test (i + 1) n) a ∙ b
 
 -- what an offset that may stand says, and that what says so may stand
-right_says : (events : ℕ) (offsets : List ℕ) (i : ℕ) → right_at events offsets i ≡ true → (i ≡ 0 → get_or offsets i 0 ≡ 0) × (0 < i → get_or offsets (i - 1) 0 ≤ get_or offsets i 0) × (i + 1 ≡ length offsets → get_or offsets i 0 ≡ events)
-right_says events offsets i e = (λ h. grind (arith, nat_tests), λ h. grind (arith, nat_tests), λ h. grind (arith, nat_tests))
+module _ (events : ℕ) (offsets : List ℕ) (i : ℕ) where
+  abbrev here : ℕ
+  here = get_or offsets i 0
 
-right_from : (events : ℕ) (offsets : List ℕ) (i : ℕ) → (i ≡ 0 → get_or offsets i 0 ≡ 0) → (0 < i → get_or offsets (i - 1) 0 ≤ get_or offsets i 0) → (i + 1 ≡ length offsets → get_or offsets i 0 ≡ events) → right_at events offsets i ≡ true
-right_from events offsets i a b c = grind (arith, nat_tests)
+  abbrev before : ℕ
+  before = get_or offsets (i - 1) 0
+
+  right_says : right_at events offsets i ≡ true → (i ≡ 0 → here ≡ 0) × (0 < i → before ≤ here) × (i + 1 ≡ length offsets → here ≡ events)
+  right_says e =
+      let p = and_parts (begins (cond (eqb i 0) None (Some before)) here) (ends here (then_some (eqb (i + 1) (length offsets)) events)) e in (
+        λ h. eqb-true here 0 (sym (ap (λ (b : Bool). begins (cond b None (Some before)) here) (eq-eqb i 0 h)) ∙ p.0),
+        λ h. leb-true before here (sym (ap (λ (b : Bool). begins (cond b None (Some before)) here) (ne_eqb i 0 (λ z. omega arith))) ∙ p.0),
+        λ h. eqb-true here events (sym (ap (λ (b : Bool). ends here (then_some b events)) (eq-eqb (i + 1) (length offsets) h)) ∙ p.1),
+      )
+
+  right_from : (i ≡ 0 → here ≡ 0) → (0 < i → before ≤ here) → (i + 1 ≡ length offsets → here ≡ events) → right_at events offsets i ≡ true
+  right_from a b c =
+      and_from (begins (cond (eqb i 0) None (Some before)) here) (ends here (then_some (eqb (i + 1) (length offsets)) events))
+      (⊎_elim
+      (λ (z : i ≡ 0). ap (λ (t : Bool). begins (cond t None (Some before)) here) (eq-eqb i 0 z) ∙ eq-eqb here 0 (a z))
+      (λ (z : i ≡ 0 → ⊥). ap (λ (t : Bool). begins (cond t None (Some before)) here) (ne_eqb i 0 z) ∙ le-leb before here (b (omega arith)))
+      (cases_eq i 0))
+      (⊎_elim
+      (λ (z : i + 1 ≡ length offsets). ap (λ (t : Bool). ends here (then_some t events)) (eq-eqb (i + 1) (length offsets) z) ∙ eq-eqb here events (c z))
+      (λ (z : i + 1 ≡ length offsets → ⊥). ap (λ (t : Bool). ends here (then_some t events)) (ne_eqb (i + 1) (length offsets) z))
+      (cases_eq (i + 1) (length offsets)))
 
 -- offsets with no wrong one are lawful
 pub lawful_from : (offsets : List ℕ) (events : ℕ) → wrong_offset events offsets ≡ None → LawfulOffsets offsets events

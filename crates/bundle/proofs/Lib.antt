@@ -1,6 +1,5 @@
 pub mod Lowest
 pub mod Lawful
-pub mod Parts
 pub mod Bytes
 pub mod Pieces
 pub mod Rows

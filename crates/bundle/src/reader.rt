@@ -1,11 +1,15 @@
-ghost use Rattle.std.specs.Prelude.{◌≡◌, ℕ, ◌+◌, ◌*◌, ◌<◌, ◌≤◌, ◌++◌, length, drop, None};
-ghost use Rattle.bundle.specs.Bundles.{tapes_in, events_in, offset_in, offsets_in, event_place, size_for, event_in, events_of, wrong_event, count_checks, offset_check, event_check, read_fault, first_wrong, or_fault, filled, FormatStands};
+ghost use Rattle.std.specs.Prelude.{◌≡◌, ℕ, ◌+◌, ◌<◌, ◌≤◌, ◌++◌, length, drop, None, IfOk};
+ghost use Rattle.std.specs.Result.{result_err};
+ghost use Rattle.event.specs.Rows.{or_else};
+ghost use Rattle.event.specs.Spans.{span};
+ghost use Rattle.bundle.specs.Bundles.{tapes_in, events_in, offset_place, offset_in, offsets_in, event_place, size_for, event_in, events_of, wrong_event, count_checks, offset_check, event_check, read_fault, first_wrong, or_fault, filled, FormatStands};
 
 use crate::fault::BundleFault;
-use crate::number::{four_bytes, two_bytes};
-use crate::offsets::is_right;
+use crate::number::bytes_at;
+use crate::offsets::lowest_wrong;
 use event::kind::Kind;
-use event::span::Span;
+use event::refusal::Refusal;
+use event::span::{Span, part};
 
 /// The most tapes of a bundle.
 pub const MOST_TAPES: usize = 512;
@@ -19,117 +23,140 @@ const HEADER: usize = 8;
 /// The bytes of an offset.
 const OFFSET_WIDTH: usize = 4;
 
-// The counts in a file with a whole header.
-fn counts(file: &[u8]) -> (usize, usize)
-    requires { 8 ≤ length file.now }
-    ensures { result ≡ (tapes_in file.now, events_in file.now) }
-{
-    (two_bytes(file, 2).into(), four_bytes(file, 4) as usize)
+// A file of one kind that is as long as its header says.
+#[derive(Clone, Copy)]
+struct BundleFile<'a> {
+    bytes: &'a [u8],
+    tapes: usize,
+    events: usize,
+    // how many bytes an event takes
+    width: usize,
+    ghost tape_count: { tapes ≡ tapes_in bytes.now },
+    ghost event_count: { events ≡ events_in bytes.now },
+    ghost few_events: { events ≤ 65535 },
+    ghost size: { length bytes.now ≡ size_for width bytes.now },
 }
 
-// Checks the header and the file's length.
-fn check_counts<K: Kind>(file: &[u8]) -> Result<(), BundleFault>
-    ensures { result ≡ or_fault (first_wrong (count_checks K.Kind.number K.Kind.width file.now)) tt }
-{
-    if file.len() < HEADER {
-        return Err(BundleFault::Short);
-    }
-    if two_bytes(file, 0) != K::kind_number() {
-        return Err(BundleFault::Kind);
-    }
-    let (tapes, events) = counts(file);
-    if tapes > MOST_TAPES || events > MOST_EVENTS {
-        return Err(BundleFault::Size);
-    }
-    // wide enough for every width
-    let offsets_end = HEADER + OFFSET_WIDTH * (tapes + 1);
-    let size = offsets_end as u128 + events as u128 * K::event_width() as u128;
-    if (file.len() as u128) < size {
-        return Err(BundleFault::Short);
-    }
-    if size < file.len() as u128 {
-        return Err(BundleFault::Over);
-    }
-    Ok(())
-}
-
-// The offset at an index.
-fn offset_at(file: &[u8], index: usize) -> u32
-    requires { 8 + 4 * (index + 1) ≤ length file.now }
-    ensures { result ≡ offset_in file.now index }
-{
-    four_bytes(file, HEADER + OFFSET_WIDTH * index)
-}
-
-// Checks the offsets of a file that has room for them.
-fn check_offsets(file: &[u8]) -> Result<(), BundleFault>
-    requires { 8 + 4 * (tapes_in file.now + 1) ≤ length file.now }
-    ensures { result ≡ or_fault (offset_check file.now) tt }
-{
-    let (tapes, events) = counts(file);
-    let mut before = 0;
-    for index in 0..tapes + 1 {
-        let here = offset_at(file, index);
-        if !is_right(index == 0, before, here, index == tapes, events as u32) {
-            let start = HEADER + OFFSET_WIDTH * index;
-            let span = Span {
-                start,
-                length: OFFSET_WIDTH,
-            };
-            return Err(BundleFault::Offsets { index, span });
+impl<'a> BundleFile<'a> {
+    // The file in some bytes, or what is wrong with their header or their length.
+    fn new<K: Kind>(bytes: &'a [u8]) -> Result<BundleFile<'a>, BundleFault>
+        ensures fault { result_err result ≡ first_wrong (count_checks K.Kind.number K.Kind.width bytes.now) }
+        ensures bytes { IfOk result (λ f. f.bytes.now ≡ bytes.now) }
+        ensures width { IfOk result (λ f. f.width ≡ K.Kind.width) }
+    {
+        if bytes.len() < HEADER {
+            return Err(BundleFault::Short);
         }
-        before = here;
+        if u16::from_be_bytes(bytes_at(bytes, 0)) != K::kind_number() {
+            return Err(BundleFault::Kind);
+        }
+        let tapes = usize::from(u16::from_be_bytes(bytes_at(bytes, 2)));
+        let events = u32::from_be_bytes(bytes_at(bytes, 4)) as usize;
+        if tapes > MOST_TAPES || events > MOST_EVENTS {
+            return Err(BundleFault::Size);
+        }
+        let width = K::event_width();
+        // wide enough for every width
+        let offsets_end = HEADER + OFFSET_WIDTH * (tapes + 1);
+        let size = offsets_end as u128 + events as u128 * width as u128;
+        if (bytes.len() as u128) < size {
+            return Err(BundleFault::Short);
+        }
+        if size < bytes.len() as u128 {
+            return Err(BundleFault::Over);
+        }
+        Ok(BundleFile {
+            bytes,
+            tapes,
+            events,
+            width,
+        })
     }
-    Ok(())
-}
 
-// Where the bytes of an event are.
-fn event_span<K: Kind>(file: &[u8], index: usize) -> Span
-    requires { (8 ≤ length file.now) × (event_place K.Kind.width file.now (index + 1) ≤ length file.now) }
-    ensures { result ≡ record { start = event_place K.Kind.width file.now index; length = K.Kind.width } }
-{
-    let (tapes, _) = counts(file);
-    let length = K::event_width();
-    let start = HEADER + OFFSET_WIDTH * (tapes + 1) + length * index;
-    Span { start, length }
-}
-
-// Checks the events of a file that is as long as its counts give.
-fn check_events<K: Kind>(file: &[u8]) -> Result<(), BundleFault>
-    requires { (8 ≤ length file.now) × (length file.now ≡ size_for K.Kind.width file.now) }
-    ensures { result ≡ or_fault (event_check K.Kind.width K.Kind.stands file.now) tt }
-{
-    let (_, events) = counts(file);
-    for index in 0..events {
-        let span = event_span::<K>(file, index);
-        if K::read(event::span::part(file, span)).is_err() {
-            return Err(BundleFault::Event { index, span });
+    // Where the bytes of an offset are.
+    fn offset_span(&self, index: usize) -> Span
+        requires { index ≤ self.now.tapes }
+        ensures { result ≡ span (offset_place index) 4 }
+    {
+        Span {
+            start: HEADER + OFFSET_WIDTH * index,
+            length: OFFSET_WIDTH,
         }
     }
-    Ok(())
-}
 
-// Writes the offsets at a row's front.
-fn copy_offsets(file: &[u8], row: &mut [u32])
-    requires { (8 + 4 * (tapes_in file.now + 1) ≤ length file.now) × (tapes_in file.now + 1 ≤ length row.old) }
-    ensures { row.new ≡ offsets_in file.now ++ drop (tapes_in file.now + 1) row.old }
-{
-    let (tapes, _) = counts(file);
-    for index in 0..tapes + 1 {
-        row[index] = offset_at(file, index);
+    // The offset at an index.
+    fn offset(&self, index: usize) -> u32
+        requires { index ≤ self.now.tapes }
+        ensures { result ≡ offset_in self.now.bytes.now index }
+    {
+        u32::from_be_bytes(bytes_at(self.bytes, self.offset_span(index).start))
     }
-}
 
-// Writes the events, which all stand, at a row's front.
-fn copy_events<K: Kind>(file: &[u8], row: &mut [K])
-    requires { (8 ≤ length file.now) × ((length file.now ≡ size_for K.Kind.width file.now) × ((wrong_event K.Kind.width K.Kind.stands file.now ≡ None) × (events_in file.now ≤ length row.old))) }
-    ensures { row.new ≡ events_of K.Kind.width K.Kind.stands file.now ++ drop (events_in file.now) row.old }
-{
-    let (_, events) = counts(file);
-    for index in 0..events {
-        let span = event_span::<K>(file, index);
-        if let Ok(event) = K::read(event::span::part(file, span)) {
-            row[index] = event;
+    // Where the bytes of an event are.
+    fn event_span(&self, index: usize) -> Span
+        requires { index < self.now.events }
+        ensures { result ≡ span (event_place self.now.width self.now.bytes.now index) self.now.width }
+    {
+        Span {
+            start: HEADER + OFFSET_WIDTH * (self.tapes + 1) + self.width * index,
+            length: self.width,
+        }
+    }
+
+    // The event at an index, or EVENT where its bytes are outside the kind.
+    fn event<K: Kind>(&self, index: usize) -> Result<K, Refusal>
+        requires { index < self.now.events }
+        ensures { result ≡ or_else Refusal.Event (event_in self.now.width K.Kind.stands self.now.bytes.now index) }
+    {
+        K::read(part(self.bytes, self.event_span(index)))
+    }
+
+    // Looks for a wrong offset.
+    fn check_offsets(&self) -> Result<(), BundleFault>
+        ensures { result ≡ or_fault (offset_check self.now.bytes.now) tt }
+    {
+        let wrong = lowest_wrong(self.tapes + 1, |i| self.offset(i), self.events as u32);
+        match wrong {
+            None => Ok(()),
+            Some(index) => Err(BundleFault::Offsets {
+                index,
+                span: self.offset_span(index),
+            }),
+        }
+    }
+
+    // Looks for an event whose bytes are outside the kind.
+    fn check_events<K: Kind>(&self) -> Result<(), BundleFault>
+        ensures { result ≡ or_fault (event_check self.now.width K.Kind.stands self.now.bytes.now) tt }
+    {
+        let wrong = (0..self.events).find(|i| self.event::<K>(*i).is_err());
+        match wrong {
+            None => Ok(()),
+            Some(index) => Err(BundleFault::Event {
+                index,
+                span: self.event_span(index),
+            }),
+        }
+    }
+
+    // Writes the offsets at a row's front.
+    fn copy_offsets(&self, row: &mut [u32])
+        requires { self.now.tapes < length row.old }
+        ensures { row.new ≡ offsets_in self.now.bytes.now ++ drop (tapes_in self.now.bytes.now + 1) row.old }
+    {
+        for (index, slot) in row[..self.tapes + 1].iter_mut().enumerate() {
+            *slot = self.offset(index);
+        }
+    }
+
+    // Writes the events, which all stand, at a row's front.
+    fn copy_events<K: Kind>(&self, row: &mut [K])
+        requires all_stand { wrong_event self.now.width K.Kind.stands self.now.bytes.now ≡ None }
+        requires room { self.now.events ≤ length row.old }
+        ensures { row.new ≡ events_of self.now.width K.Kind.stands self.now.bytes.now ++ drop (events_in self.now.bytes.now) row.old }
+    {
+        for (index, slot) in row[..self.events].iter_mut().enumerate() {
+            *slot = self.event(index).unwrap();
         }
     }
 }
@@ -144,16 +171,15 @@ pub fn read_bundle<K: Kind>(
     ensures offsets_after { offsets.new ≡ filled (read_fault K.Kind.number K.Kind.width K.Kind.stands file.now (length offsets.old) (length events.old)) (offsets_in file.now) offsets.old }
     ensures events_after { events.new ≡ filled (read_fault K.Kind.number K.Kind.width K.Kind.stands file.now (length offsets.old) (length events.old)) (events_of K.Kind.width K.Kind.stands file.now) events.old }
 {
-    check_counts::<K>(file)?;
-    check_offsets(file)?;
-    check_events::<K>(file)?;
-    let (tape_count, event_count) = counts(file);
-    if offsets.len() <= tape_count || events.len() < event_count {
+    let file = BundleFile::new::<K>(file)?;
+    file.check_offsets()?;
+    file.check_events::<K>()?;
+    if offsets.len() <= file.tapes || events.len() < file.events {
         return Err(BundleFault::Room);
     }
-    copy_offsets(file, offsets);
-    copy_events::<K>(file, events);
-    Ok((tape_count, event_count))
+    file.copy_offsets(offsets);
+    file.copy_events(events);
+    Ok((file.tapes, file.events))
 }
 
 /// Reading finds no fault in a file, and gives some offsets and events, exactly if the file says them.

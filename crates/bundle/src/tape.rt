@@ -7,13 +7,10 @@ use event::kind::Kind;
 pub fn tape_at<'a, K: Kind>(events: &'a [K], offsets: &[u32], number: usize) -> &'a [K]
     ensures { result.now ≡ slice_index_or (tapes events.now offsets.now) number [] }
 {
-    if offsets.len() < 2 || number > offsets.len() - 2 {
-        return &events[0..0];
-    }
-    let from = (offsets[number] as usize).min(events.len());
-    let to = (offsets[number + 1] as usize).min(events.len());
-    if to < from {
-        return &events[0..0];
-    }
+    let Some([from, to, ..]) = offsets.get(number..) else {
+        return &[];
+    };
+    let to = (*to as usize).min(events.len());
+    let from = (*from as usize).min(to);
     &events[from..to]
 }

@@ -1,11 +1,11 @@
-ghost use Rattle.std.specs.Prelude.{◌≡◌, ℕ, ◌<◌, ◌≤◌, length};
+ghost use Rattle.std.specs.Prelude.{◌≡◌, ℕ, ◌+◌, ◌<◌, ◌≤◌, ◌↔◌, length, take, drop, IsSome, IfSome};
 ghost use Rattle.query.specs.Queries.{before, digits_to, query_in, or_line, QueryStands};
 
 use event::decimal::read_digits;
 use event::span::Span;
 
 /// What the query line asks for: a threshold, a longest length, and where the expression's text is in the line.
-#[derive(Clone, Copy)]
+#[derive(Clone, Copy, Debug, PartialEq, Eq)]
 pub struct Query {
     pub threshold: u32,
     pub longest: u32,
@@ -13,7 +13,7 @@ pub struct Query {
 }
 
 /// Why there is no query.
-#[derive(Clone, Copy)]
+#[derive(Clone, Copy, Debug, PartialEq, Eq)]
 pub enum QueryFault {
     /// More input than the lister takes.
     Input,
@@ -26,12 +26,21 @@ pub fn count_before(value: u8, bytes: &[u8]) -> usize
     ensures value { result ≡ before value bytes.now }
     ensures within { result ≤ length bytes.now }
 {
-    for (i, b) in bytes.iter().enumerate() {
-        if *b == value {
-            return i;
-        }
-    }
-    bytes.len()
+    bytes
+        .iter()
+        .position(|b| *b == value)
+        .unwrap_or(bytes.len())
+}
+
+// What stands before the first space and what stands behind it, if there is one.
+fn split_at_space(bytes: &[u8]) -> Option<(&[u8], &[u8])>
+    ensures some { IsSome result ↔ (before 32 bytes.now < length bytes.now) }
+    ensures front { IfSome result (λ p. p.0.now ≡ take (before 32 bytes.now) bytes.now) }
+    ensures behind { IfSome result (λ p. p.1.now ≡ drop (before 32 bytes.now + 1) bytes.now) }
+{
+    let (front, rest) = bytes.split_at(count_before(b' ', bytes));
+    let (_space, behind) = rest.split_first()?;
+    Some((front, behind))
 }
 
 // The number that one to so many digits write.
@@ -44,35 +53,27 @@ fn read_field(bytes: &[u8], digits: usize, most: u16) -> Option<u16>
     read_digits(bytes, most)
 }
 
+// The query in a line, if it is written there.
+fn find_query(line: &[u8]) -> Option<Query>
+    ensures { result ≡ query_in line.now }
+{
+    let (threshold, rest) = split_at_space(line)?;
+    let (longest, text) = split_at_space(rest)?;
+    Some(Query {
+        threshold: read_field(threshold, 3, 999)?.into(),
+        longest: read_field(longest, 2, 99)?.into(),
+        text: Span {
+            start: line.len() - text.len(),
+            length: text.len(),
+        },
+    })
+}
+
 /// Reads the query line, given without its line feed.
 pub fn read_query(line: &[u8]) -> Result<Query, QueryFault>
     ensures { result ≡ or_line (query_in line.now) }
 {
-    let first = count_before(b' ', line);
-    if first >= line.len() {
-        return Err(QueryFault::Line);
-    }
-    let rest = &line[first + 1..];
-    let second = count_before(b' ', rest);
-    if second >= rest.len() {
-        return Err(QueryFault::Line);
-    }
-    let Some(threshold) = read_field(&line[0..first], 3, 999) else {
-        return Err(QueryFault::Line);
-    };
-    let Some(longest) = read_field(&rest[0..second], 2, 99) else {
-        return Err(QueryFault::Line);
-    };
-    let start = first + 1 + second + 1;
-    let text = Span {
-        start,
-        length: line.len() - start,
-    };
-    Ok(Query {
-        threshold: threshold.into(),
-        longest: longest.into(),
-        text,
-    })
+    find_query(line).ok_or(QueryFault::Line)
 }
 
 /// A line is read as a query exactly if it is written as one.

@@ -1,24 +1,28 @@
-use Rattle.std.proofs.Common.{◌+◌, ◌≤◌, length, get_or, sym, ◌∙◌, arith}
-use Rattle.bundle.proofs.Cuts.{tape_between, tape_past, between_within, between_crossed}
+use Rattle.std.proofs.Common.{◌≡◌, ℕ, ◌+◌, ◌<◌, ◌≤◌, ◌⊎◌, min, List, length, get_or, drop, refl, sym, ap, ◌∙◌, ⊎_elim, arith}
+use Rattle.std.proofs.lemmas.List.{take_rest, length-drop, get_or-drop}
+use Rattle.bundle.proofs.Cuts.{tape_between, tape_past, between_within}
 use Rattle.bundle.proofs.tape.tape_at.Goals as goal
-use Rattle.bundle.proofs.tape.tape_at.Goals.{then-offsets-lt2-via-then-offsets-lt2, then-offsets-lt2-via-else-offsets-lt2+then-number-offsets}
+use Rattle.bundle.proofs.tape.tape_at.Goals.{in_default-via-in-Some+then-get-lt2, in_default-via-in_default}
 
-pub returns-then-offsets-lt2 : goal.returns-then-offsets-lt2
-returns-then-offsets-lt2 g c =
-    let h : length c.args.offsets.now ≤ c.args.number + 1 =
-    elim c.then-offsets-lt2.branch [ then-offsets-lt2-via-then-offsets-lt2 w ↦ omega arith | then-offsets-lt2-via-else-offsets-lt2+then-number-offsets w ↦ omega arith ] in
-    sym (tape_past c.args.events.now c.args.offsets.now c.args.number h)
+none_from : (from to n : ℕ) → (to < from) ⊎ (n < to) → to ≡ n → n < from
+none_from from to n e same = ⊎_elim (λ (h : to < from). omega arith) (λ (h : n < to). absurd (omega arith)) e
 
-pub returns-then-to-from : goal.returns-then-to-from
-returns-then-to-from g c =
-    let os = c.args.offsets.now in
-    let t = c.args.number in
-    between_crossed c.args.events.now (get_or os t 0) (get_or os (t + 1) 0) c.min-from.result c.min-to.result c.min-from.ensures c.min-to.ensures c.if-to-from.true
-    ∙ sym (tape_between c.args.events.now os t (omega arith))
+pub returns-in_default : goal.returns-in_default
+returns-in_default g c =
+    let past : length c.args.offsets.now ≤ c.args.number + 1 =
+    elim c.in_default.branch [ in_default-via-in-Some+then-get-lt2 w ↦ grind (arith, c.get.ensures.lookup) | in_default-via-in_default w ↦ omega (arith, none_from c.args.number (length c.args.offsets.now) (length c.args.offsets.now) (rw w.in_default.is at c.get.ensures.lookup).0 refl) ] in
+    sym (tape_past c.args.events.now c.args.offsets.now c.args.number past)
 
 pub returns : goal.returns
 returns g c =
+    let events = c.args.events.now in
     let os = c.args.offsets.now in
     let t = c.args.number in
-    between_within c.args.events.now (get_or os t 0) (get_or os (t + 1) 0) c.min-from.result c.min-to.result c.min-from.ensures c.min-to.ensures
-    ∙ sym (tape_between c.args.events.now os t (omega arith))
+    let rest = c.in-Some-len2-up.field-0.now in
+    let behind : rest ≡ drop t os = c.in-Some-len2-up.ensures.lookup.0.2 ∙ take_rest os t in
+    let from : get_or rest 0 0 ≡ get_or os t 0 =
+    ap (λ (l : List ℕ). get_or l 0 0) behind ∙ get_or-drop t os 0 0 ∙ ap (λ (k : ℕ). get_or os k 0) (omega arith) in
+    let to : get_or rest 1 0 ≡ get_or os (t + 1) 0 = ap (λ (l : List ℕ). get_or l 1 0) behind ∙ get_or-drop t os 1 0 in
+    let within : t + 1 < length os = omega (arith, ap length behind, length-drop t os) in
+    between_within events (get_or os t 0) (get_or os (t + 1) 0) c.min-from.result c.min-to.result (c.min-to.ensures ∙ ap (λ (n : ℕ). min n (length events)) to) (c.min-from.ensures ∙ ap (λ (n : ℕ). min n c.min-to.result) from)
+    ∙ sym (tape_between events os t within)

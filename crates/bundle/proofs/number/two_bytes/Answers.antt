@@ -1,7 +1,0 @@
-use Rattle.std.proofs.Common.{ap, arith}
-use Rattle.bundle.specs.Numbers.{high_first}
-use Rattle.bundle.proofs.Parts.{part_two}
-use Rattle.bundle.proofs.number.two_bytes.Goals as goal
-
-pub returns : goal.returns
-returns c = omega (arith, ap high_first (part_two c.args.at c.args.bytes.now c.requires))
