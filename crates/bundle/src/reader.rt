@@ -40,14 +40,14 @@ struct BundleFile<'a> {
 impl<'a> BundleFile<'a> {
     // The file in some bytes, or what is wrong with their header or their length.
     fn new<K: Kind>(bytes: &'a [u8]) -> Result<BundleFile<'a>, BundleFault>
-        ensures fault { result_err result ≡ first_wrong (count_checks K.Kind.number K.Kind.width bytes.now) }
+        ensures fault { result_err result ≡ first_wrong (count_checks K.Kind.NUMBER K.Kind.WIDTH bytes.now) }
         ensures bytes { IfOk result (λ f. f.bytes.now ≡ bytes.now) }
-        ensures width { IfOk result (λ f. f.width ≡ K.Kind.width) }
+        ensures width { IfOk result (λ f. f.width ≡ K.Kind.WIDTH) }
     {
         if bytes.len() < HEADER {
             return Err(BundleFault::Short);
         }
-        if u16::from_be_bytes(bytes_at(bytes, 0)) != K::kind_number() {
+        if u16::from_be_bytes(bytes_at(bytes, 0)) != K::NUMBER {
             return Err(BundleFault::Kind);
         }
         let tapes = usize::from(u16::from_be_bytes(bytes_at(bytes, 2)));
@@ -55,7 +55,7 @@ impl<'a> BundleFile<'a> {
         if tapes > MOST_TAPES || events > MOST_EVENTS {
             return Err(BundleFault::Size);
         }
-        let width = K::event_width();
+        let width = K::WIDTH;
         // wide enough for every width
         let offsets_end = HEADER + OFFSET_WIDTH * (tapes + 1);
         let size = offsets_end as u128 + events as u128 * width as u128;
@@ -167,9 +167,9 @@ pub fn read_bundle<K: Kind>(
     offsets: &mut [u32],
     events: &mut [K],
 ) -> Result<(usize, usize), BundleFault>
-    ensures answer { result ≡ or_fault (read_fault K.Kind.number K.Kind.width K.Kind.stands file.now (length offsets.old) (length events.old)) (tapes_in file.now, events_in file.now) }
-    ensures offsets_after { offsets.new ≡ filled (read_fault K.Kind.number K.Kind.width K.Kind.stands file.now (length offsets.old) (length events.old)) (offsets_in file.now) offsets.old }
-    ensures events_after { events.new ≡ filled (read_fault K.Kind.number K.Kind.width K.Kind.stands file.now (length offsets.old) (length events.old)) (events_of K.Kind.width K.Kind.stands file.now) events.old }
+    ensures answer { result ≡ or_fault (read_fault K.Kind.NUMBER K.Kind.WIDTH K.Kind.stands file.now (length offsets.old) (length events.old)) (tapes_in file.now, events_in file.now) }
+    ensures offsets_after { offsets.new ≡ filled (read_fault K.Kind.NUMBER K.Kind.WIDTH K.Kind.stands file.now (length offsets.old) (length events.old)) (offsets_in file.now) offsets.old }
+    ensures events_after { events.new ≡ filled (read_fault K.Kind.NUMBER K.Kind.WIDTH K.Kind.stands file.now (length offsets.old) (length events.old)) (events_of K.Kind.WIDTH K.Kind.stands file.now) events.old }
 {
     let file = BundleFile::new::<K>(file)?;
     file.check_offsets()?;
@@ -184,7 +184,7 @@ pub fn read_bundle<K: Kind>(
 
 /// Reading finds no fault in a file, and gives some offsets and events, exactly if the file says them.
 pub fn format_stands<K: Kind>() -> u8
-    ensures { FormatStands K.Kind.number K.Kind.width K.Kind.stands }
+    ensures { FormatStands K.Kind.NUMBER K.Kind.WIDTH K.Kind.stands }
 {
     0
 }

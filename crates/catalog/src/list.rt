@@ -53,9 +53,9 @@ fn read_tapes<K: Kind>(
     offsets: &mut [u32],
     events: &mut [K],
 ) -> Result<(usize, usize), ListerFault>
-    ensures answer { result ≡ or_refused (read_fault K.Kind.number K.Kind.width K.Kind.stands file.now (length offsets.old) (length events.old)) (tapes_in file.now, events_in file.now) }
-    ensures offsets_after { offsets.new ≡ filled (read_fault K.Kind.number K.Kind.width K.Kind.stands file.now (length offsets.old) (length events.old)) (offsets_in file.now) offsets.old }
-    ensures events_after { events.new ≡ filled (read_fault K.Kind.number K.Kind.width K.Kind.stands file.now (length offsets.old) (length events.old)) (events_of K.Kind.width K.Kind.stands file.now) events.old }
+    ensures answer { result ≡ or_refused (read_fault K.Kind.NUMBER K.Kind.WIDTH K.Kind.stands file.now (length offsets.old) (length events.old)) (tapes_in file.now, events_in file.now) }
+    ensures offsets_after { offsets.new ≡ filled (read_fault K.Kind.NUMBER K.Kind.WIDTH K.Kind.stands file.now (length offsets.old) (length events.old)) (offsets_in file.now) offsets.old }
+    ensures events_after { events.new ≡ filled (read_fault K.Kind.NUMBER K.Kind.WIDTH K.Kind.stands file.now (length offsets.old) (length events.old)) (events_of K.Kind.WIDTH K.Kind.stands file.now) events.old }
 {
     let counts = read_bundle(file, offsets, events)?;
     Ok(counts)
@@ -121,7 +121,7 @@ fn append_read<K: Kind>(
     requires offset_room { 513 ≤ length offsets.old }
     requires event_room { 65535 ≤ length events.old }
     requires lexicon_room { 1024 ≤ length lexicon.old }
-    ensures { Outcome (reading_fault K.Kind.number K.Kind.width K.Kind.stands K.Kind.order query.now file.now) text.old.items (kind_text K.Kind.width K.Kind.stands K.Kind.order K.Kind.label query.now file.now) text.new.items result }
+    ensures { Outcome (reading_fault K.Kind.NUMBER K.Kind.WIDTH K.Kind.stands K.Kind.order query.now file.now) text.old.items (kind_text K.Kind.WIDTH K.Kind.stands K.Kind.order K.Kind.label query.now file.now) text.new.items result }
 {
     let (tape_count, event_count) = read_tapes(file, offsets, events)?;
     let word_count = learn_lexicon(&events[0..event_count], lexicon)?;
@@ -144,7 +144,7 @@ fn append_file<K: Kind>(
     blank: K,
     text: &mut Vec<u8>,
 ) -> Result<(), ListError>
-    ensures { Outcome (reading_fault K.Kind.number K.Kind.width K.Kind.stands K.Kind.order query.now file.now) text.old.items (kind_text K.Kind.width K.Kind.stands K.Kind.order K.Kind.label query.now file.now) text.new.items result }
+    ensures { Outcome (reading_fault K.Kind.NUMBER K.Kind.WIDTH K.Kind.stands K.Kind.order query.now file.now) text.old.items (kind_text K.Kind.WIDTH K.Kind.stands K.Kind.order K.Kind.label query.now file.now) text.new.items result }
 {
     let mut offsets = Vec::new(heap);
     offsets.resize(MOST_TAPES + 1, 0u32)?;

@@ -53,8 +53,8 @@ read_outcome {K} number width stands order label query file none learns os es ws
 
 pub returns-in_err-tape_count : goal.returns-in_err-tape_count
 returns-in_err-tape_count g c =
-    let number = g.K.Kind.number in
-    let width = g.K.Kind.width in
+    let number = g.K.Kind.NUMBER in
+    let width = g.K.Kind.WIDTH in
     let stands = g.K.Kind.stands in
     let order = g.K.Kind.order in
     let file = c.args.file.now in
@@ -68,8 +68,8 @@ returns-in_err-tape_count g c =
 
 pub returns-in_err-word_count : goal.returns-in_err-word_count
 returns-in_err-word_count g c =
-    let number = g.K.Kind.number in
-    let width = g.K.Kind.width in
+    let number = g.K.Kind.NUMBER in
+    let width = g.K.Kind.WIDTH in
     let stands = g.K.Kind.stands in
     let order = g.K.Kind.order in
     let file = c.args.file.now in
@@ -93,8 +93,8 @@ returns-in_err-word_count g c =
 
 pub returns : goal.returns
 returns g c =
-    let number = g.K.Kind.number in
-    let width = g.K.Kind.width in
+    let number = g.K.Kind.NUMBER in
+    let width = g.K.Kind.WIDTH in
     let stands = g.K.Kind.stands in
     let order = g.K.Kind.order in
     let file = c.args.file.now in

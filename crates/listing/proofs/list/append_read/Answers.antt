@@ -22,8 +22,8 @@ module _ {K : Type 0} (number width : ℕ) (stands : List ℕ → Option K) (fil
 
 pub returns-in_err-tape_count : goal.returns-in_err-tape_count
 returns-in_err-tape_count g c =
-    let number = g.K.Kind.number in
-    let width = g.K.Kind.width in
+    let number = g.K.Kind.NUMBER in
+    let width = g.K.Kind.WIDTH in
     let stands = g.K.Kind.stands in
     let order = g.K.Kind.order in
     let file = c.args.file.now in
@@ -36,8 +36,8 @@ returns-in_err-tape_count g c =
 
 pub returns-in_err-word_count : goal.returns-in_err-word_count
 returns-in_err-word_count g c =
-    let number = g.K.Kind.number in
-    let width = g.K.Kind.width in
+    let number = g.K.Kind.NUMBER in
+    let width = g.K.Kind.WIDTH in
     let stands = g.K.Kind.stands in
     let order = g.K.Kind.order in
     let file = c.args.file.now in
@@ -60,8 +60,8 @@ returns-in_err-word_count g c =
 
 pub append_supports-requires : goal.append_supports-requires
 append_supports-requires g c =
-    let number = g.K.Kind.number in
-    let width = g.K.Kind.width in
+    let number = g.K.Kind.NUMBER in
+    let width = g.K.Kind.WIDTH in
     let stands = g.K.Kind.stands in
     let order = g.K.Kind.order in
     let file = c.args.file.now in
@@ -80,8 +80,8 @@ append_supports-requires g c =
 
 pub returns : goal.returns
 returns g c =
-    let number = g.K.Kind.number in
-    let width = g.K.Kind.width in
+    let number = g.K.Kind.NUMBER in
+    let width = g.K.Kind.WIDTH in
     let stands = g.K.Kind.stands in
     let order = g.K.Kind.order in
     let file = c.args.file.now in

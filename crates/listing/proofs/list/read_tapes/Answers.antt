@@ -9,7 +9,7 @@ use Rattle.listing.proofs.list.read_tapes.Goals as goal
 pub returns-in_err-counts : goal.returns-in_err-counts
 returns-in_err-counts g c =
     let file = c.args.file.now in
-    let fault = read_fault g.K.Kind.number g.K.Kind.width g.K.Kind.stands file (length c.args.offsets.now) (length c.args.events.now) in
+    let fault = read_fault g.K.Kind.NUMBER g.K.Kind.WIDTH g.K.Kind.stands file (length c.args.offsets.now) (length c.args.events.now) in
     let e = some_of_err fault (tapes_in file, events_in file) _ (sym c.in_err-counts.was ∙ c.read_bundle.ensures.answer) in
     let p = err_from_is_err_and c.from_residual.result c.from_residual.ensures.1 in
     record {
