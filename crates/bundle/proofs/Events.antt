@@ -10,7 +10,7 @@ use Rattle.event.specs.Rows.{or_else}
 use Rattle.bundle.specs.Offsets.{lowest}
 use Rattle.bundle.specs.Bundles.{events_in, present, event_in, wrong_event}
 use Rattle.bundle.proofs.Lawful.{lowest_none}
-use Rattle.bundle.proofs.Lowest.{find_lowest, lowest_within}
+use Rattle.bundle.proofs.Lowest.{find_lowest}
 use Rattle.bundle.proofs.Rows.{write_more}
 
 -- the events up to i
@@ -55,9 +55,6 @@ module _ {K : Type 0} (width : ℕ) (stands : List ℕ → Option K) (file : Lis
   wrong_found e n o all found =
       let outside = λ (i : ℕ). not (is_some (event_in width stands file i)) in
       sym (same_option o) ∙ found ∙ find_lowest (λ i. is_err (or_else e (event_in width stands file i))) outside (λ k. err_of_none e (event_in width stands file k)) 0 n ∙ ap (lowest outside 0) all
-
-  pub wrong_within : (i : ℕ) → wrong_event width stands file ≡ Some i → i < events_in file
-  wrong_within i e = omega (arith, lowest_within (λ k. not (is_some (event_in width stands file k))) 0 (events_in file) i e)
 
   -- where there is none, each event is read
   pub is_read : (e : Refusal) (i : ℕ) (r : Result K Refusal) → wrong_event width stands file ≡ None → i < events_in file → r ≡ or_else e (event_in width stands file i) → is_ok r ≡ true
