@@ -1,5 +1,5 @@
 -- The events in a file, read one by one.
-use Rattle.std.proofs.Common.{◌≡◌, ℕ, ◌+◌, ◌<◌, true, not, List, [], ◌∷◌, ◌++◌, map, length, drop, set, find, is_some, is_ok, is_err, Some, None, Ok, Option, Result, sym, refl, ap, ◌∙◌, arith}
+use Rattle.std.proofs.Common.{◌≡◌, ℕ, ◌+◌, ◌<◌, true, not, List, [], ◌∷◌, ◌++◌, map, length, drop, set, find, is_some, is_ok, is_err, IfSome, Some, None, Ok, Option, Result, sym, refl, ap, ◌∙◌, arith}
 use Rattle.std.specs.Option.{option_map}
 use Rattle.std.proofs.lemmas.Bool.{false≢true, not-false}
 use Rattle.std.proofs.lemmas.List.FromFn.{map-range_with_len_more}
@@ -56,8 +56,9 @@ module _ {K : Type 0} (width : ℕ) (stands : List ℕ → Option K) (file : Lis
       let outside = λ (i : ℕ). not (is_some (event_in width stands file i)) in
       sym (same_option o) ∙ found ∙ find_lowest (λ i. is_err (or_else e (event_in width stands file i))) outside (λ k. err_of_none e (event_in width stands file k)) 0 n ∙ ap (lowest outside 0) all
 
-  pub wrong_within : (i : ℕ) → wrong_event width stands file ≡ Some i → i < events_in file
-  wrong_within i e = omega (arith, lowest_within (λ k. not (is_some (event_in width stands file k))) 0 (events_in file) i e)
+  pub wrong_within : (n : ℕ) → n ≡ events_in file → IfSome (wrong_event width stands file) (λ i. i < n)
+  wrong_within n all =
+      lowest_within (λ k. not (is_some (event_in width stands file k))) 0 (events_in file) n (omega arith)
 
   -- where there is none, each event is read
   pub is_read : (e : Refusal) (i : ℕ) (r : Result K Refusal) → wrong_event width stands file ≡ None → i < events_in file → r ≡ or_else e (event_in width stands file i) → is_ok r ≡ true

@@ -1,7 +1,7 @@
 -- The lowest number that passes a test, and the wrong offset, turn by turn.
-use Rattle.std.proofs.Common.{◌≡◌, ℕ, zero, suc, ◌+◌, ◌-◌, ◌<◌, ◌≤◌, ◌⊎◌, Bool, true, false, cond, not, eqb, List, [], ◌∷◌, map, length, get_or, find, Some, None, Option, refl, sym, ap, ◌∙◌, inl, inr, ⊎_elim, arith}
+use Rattle.std.proofs.Common.{◌≡◌, ℕ, zero, suc, ◌+◌, ◌-◌, ◌<◌, ◌≤◌, Bool, true, false, cond, not, eqb, List, [], ◌∷◌, map, length, get_or, find, IfSome, Some, None, Option, refl, sym, ap, ◌∙◌, arith}
 use Rattle.std.proofs.lemmas.List.FromFn.{length-map-range_with_len, get_or-map-range_with_len}
-use Rattle.std.proofs.lemmas.Bool.{cond-true, cond-false, ne_eqb}
+use Rattle.std.proofs.lemmas.Bool.{cond-true, cond-false, cond_both, ne_eqb}
 use Rattle.std.specs.Bool.{then_some}
 use Rattle.std.specs.List.{range_with_len}
 use Rattle.bundle.specs.Offsets.{lowest, right_offset, offset_before, right_at, wrong_offset}
@@ -32,14 +32,11 @@ find_lowest test same h i zero = refl
 find_lowest test same h i (suc n) =
     ap (λ (b : Bool). cond b (Some i) (find test (range_with_len (i + 1) n))) (h i) ∙ ap (λ (o : Option ℕ). cond (same i) (Some i) o) (find_lowest test same h (i + 1) n)
 
-this_or_later : (b : Bool) (i k : ℕ) (o : Option ℕ) → cond b (Some i) o ≡ Some k → (i ≡ k) ⊎ (o ≡ Some k)
-this_or_later true i k o e = inl cc
-this_or_later false i k o e = inr e
-
-pub lowest_within : (test : ℕ → Bool) (i n k : ℕ) → lowest test i n ≡ Some k → k < i + n
-lowest_within test i zero k e = absurd (let z : ◌≡◌ {A = ℕ} 0 1 = cc in omega arith)
-lowest_within test i (suc n) k e =
-    ⊎_elim (λ (p : i ≡ k). omega arith) (λ (p : lowest test (i + 1) n ≡ Some k). let q = lowest_within test (i + 1) n k p in omega arith) (this_or_later (test i) i k (lowest test (i + 1) n) e)
+-- a lowest is within the numbers that were tried
+pub lowest_within : (test : ℕ → Bool) (i n m : ℕ) → i + n ≤ m → IfSome (lowest test i n) (λ k. k < m)
+lowest_within test i zero m h = tt
+lowest_within test i (suc n) m h =
+    cond_both (test i) (Some i) (lowest test (i + 1) n) (λ (o : Option ℕ). IfSome o (λ k. k < m)) (λ t. omega arith) (λ t. lowest_within test (i + 1) n m (omega arith))
 
 -- the wrong offset from i on
 abbrev pub wrong_from : ℕ → List ℕ → ℕ → Option ℕ

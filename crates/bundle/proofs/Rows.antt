@@ -1,7 +1,7 @@
 -- How many offsets are in a file, and how a row is written from its front on.
-use Rattle.std.proofs.Common.{◌≡◌, ℕ, ◌+◌, ◌<◌, ◌≤◌, List, [], ◌∷◌, ◌++◌, map, length, get_or, take, drop, set, sym, ap, ◌∙◌, append_assoc, append-nil, arith}
+use Rattle.std.proofs.Common.{◌≡◌, ℕ, ◌+◌, ◌<◌, List, [], ◌∷◌, ◌++◌, map, length, get_or, drop, set, sym, ap, ◌∙◌, append_assoc, arith}
 use Rattle.std.proofs.lemmas.List.FromFn.{length-map-range_with_len, map-range_with_len_more}
-use Rattle.std.proofs.lemmas.List.{drop_more, drop_all, set_at, length-take-le}
+use Rattle.std.proofs.lemmas.List.{drop_more, set_at}
 use Rattle.std.specs.List.{range_with_len}
 use Rattle.bundle.specs.Bundles.{tapes_in, offset_in, offsets_in}
 
@@ -16,10 +16,3 @@ write_more {X} xs row i x len h =
 pub write_counted_more : {X : Type 0} (f : ℕ → X) (row : List X) (i : ℕ) → i < length row → set (map f (range_with_len 0 i) ++ drop i row) i (f i) ≡ map f (range_with_len 0 (i + 1)) ++ drop (i + 1) row
 write_counted_more {X} f row i h =
     write_more (map f (range_with_len 0 i)) row i (f i) (length-map-range_with_len f 0 i) h ∙ ap (λ (l : List X). l ++ drop (i + 1) row) (sym (map-range_with_len_more f 0 i i (omega arith)))
-
--- the front of a row, with so many at its own front as it has places, and the rest of the row behind it
-pub front_written : {X : Type 0} (xs : ℕ → List X) (row items : List X) (n m i : ℕ) → items ≡ xs i ++ drop i (take n row) → n ≤ length row → length (take n row) ≤ i → i ≤ length (take n row) → n ≡ m → items ++ drop n row ≡ xs m ++ drop m row
-front_written {X} xs row items n m i e room low high same =
-    let all : i ≡ m = omega (arith, length-take-le n row room) in
-    let p : items ≡ xs m = e ∙ ap (λ (l : List X). xs i ++ l) (drop_all i (take n row) low) ∙ append-nil (xs i) ∙ ap xs all in
-    ap (λ (l : List X). l ++ drop n row) p ∙ ap (λ (k : ℕ). xs m ++ drop k row) same

@@ -24,6 +24,7 @@ pub(crate) fn lowest_wrong<F: Fn(usize) -> u32>(
     if count == 0 {
         return Some(0);
     }
+    // each offset is asked for once, so the loop keeps the one before
     let mut before = None;
     for index in 0..count {
         let here = offset(index);

@@ -1,4 +1,4 @@
-ghost use Rattle.std.specs.Prelude.{◌≡◌, ℕ, ◌+◌, ◌<◌, ◌≤◌, ◌++◌, length, drop, None, IfOk};
+ghost use Rattle.std.specs.Prelude.{◌≡◌, ℕ, ◌+◌, ◌<◌, ◌≤◌, ◌++◌, length, drop, None, IfSome, IfOk};
 ghost use Rattle.std.specs.Result.{result_err};
 ghost use Rattle.event.specs.Rows.{or_else};
 ghost use Rattle.event.specs.Spans.{span};
@@ -24,7 +24,7 @@ const HEADER: usize = 8;
 const OFFSET_WIDTH: usize = 4;
 
 // A file of one kind that is as long as its header says.
-#[derive(Clone, Copy)]
+#[derive(Drop)]
 struct BundleFile<'a> {
     bytes: &'a [u8],
     tapes: usize,
@@ -125,12 +125,19 @@ impl<'a> BundleFile<'a> {
         }
     }
 
+    // The lowest event whose bytes are outside the kind, if one is.
+    fn wrong_event<K: Kind>(&self) -> Option<usize>
+        ensures lowest { result ≡ wrong_event self.now.width K.Kind.stands self.now.bytes.now }
+        ensures within { IfSome result (λ i. i < self.now.events) }
+    {
+        (0..self.events).find(|i| self.event::<K>(*i).is_err())
+    }
+
     // Looks for an event whose bytes are outside the kind.
     fn check_events<K: Kind>(&self) -> Result<(), BundleFault>
         ensures { result ≡ or_fault (event_check self.now.width K.Kind.stands self.now.bytes.now) tt }
     {
-        let wrong = (0..self.events).find(|i| self.event::<K>(*i).is_err());
-        match wrong {
+        match self.wrong_event::<K>() {
             None => Ok(()),
             Some(index) => Err(BundleFault::Event {
                 index,

@@ -1,12 +1,9 @@
-use Rattle.std.proofs.Common.{not, map, length, refl, sym, ◌∙◌, arith}
+use Rattle.std.proofs.Common.{not, map, length, sym, ◌∙◌, arith}
 use Rattle.std.proofs.lemmas.List.FromFn.{length-map-range_with_len}
 use Rattle.std.specs.List.{range_with_len}
 use Rattle.bundle.specs.Offsets.{right_at}
-use Rattle.bundle.proofs.Lowest.{wrong_first, wrong_on, wrong_here, before_next, lowest_all}
+use Rattle.bundle.proofs.Lowest.{wrong_on, wrong_here, before_next, lowest_all}
 use Rattle.bundle.proofs.offsets.lowest_wrong.Goals as goal
-
-pub loop-index-init : goal.loop-index-init
-loop-index-init g c = λ at gives. (refl, wrong_first c.args.events (map at (range_with_len 0 c.args.count)) (omega (arith, length-map-range_with_len at 0 c.args.count)))
 
 pub returns-then-not-is_right-clause-lowest : goal.returns-then-not-is_right-clause-lowest
 returns-then-not-is_right-clause-lowest g c = λ at gives.

@@ -2,8 +2,7 @@ use Rattle.std.proofs.Common.{◌<◌, take, set, refl, arith}
 use Rattle.std.proofs.lemmas.List.{length-take-le}
 use Rattle.event.specs.declared.refusal.Refusal.TheVariants as refusal
 use Rattle.bundle.specs.Bundles.{events_in}
-use Rattle.bundle.proofs.Events.{events_to, is_read, copied_more}
-use Rattle.bundle.proofs.Rows.{front_written}
+use Rattle.bundle.proofs.Events.{is_read, copied_more}
 use Rattle.bundle.proofs.reader.BundleFile.copy_events.Goals as goal
 
 pub unwrap-requires : goal.unwrap-requires
@@ -16,8 +15,3 @@ pub loop-index-preserved : goal.loop-index-preserved
 loop-index-preserved g c =
     let f = c.args.self.now in
     copied_more f.width g.K.Kind.stands f.bytes.now refusal.Event c.loop-index.index c.event.result (take f.events c.args.row.now) c.loop-index.slot-items (set c.loop-index.slot-items c.loop-index.index c.unwrap.result) c.unwrap.result c.event.ensures c.unwrap.ensures c.loop-index-test.true c.loop-index.invariant refl
-
-pub returns : goal.returns
-returns g c =
-    let f = c.args.self.now in
-    front_written (events_to f.width g.K.Kind.stands f.bytes.now) c.args.row.now c.loop-index.slot-items f.events (events_in f.bytes.now) c.loop-index.index c.loop-index.invariant.1 c.requires.room c.loop-index-test.false c.loop-index.auto.index-end f.event_count

@@ -1,7 +1,7 @@
-use Rattle.std.proofs.Common.{◌≡◌, ℕ, ◌+◌, ◌<◌, List, ◌++◌, map, length, take, drop, set, ap, arith}
+use Rattle.std.proofs.Common.{◌≡◌, ℕ, ◌+◌, ◌<◌, List, ◌++◌, map, length, take, drop, set}
 use Rattle.std.specs.List.{range_with_len}
-use Rattle.bundle.specs.Bundles.{tapes_in, offset_in}
-use Rattle.bundle.proofs.Rows.{write_counted_more, front_written}
+use Rattle.bundle.specs.Bundles.{offset_in}
+use Rattle.bundle.proofs.Rows.{write_counted_more}
 use Rattle.bundle.proofs.reader.BundleFile.copy_offsets.Goals as goal
 
 -- one turn
@@ -12,9 +12,3 @@ pub loop-index-preserved : goal.loop-index-preserved
 loop-index-preserved c =
     let f = c.args.self.now in
     more (offset_in f.bytes.now) (take (f.tapes + 1) c.args.row.now) c.loop-index.slot-items c.loop-index.index c.offset.result c.loop-index.invariant c.offset.ensures c.loop-index-test.true
-
-pub returns : goal.returns
-returns c =
-    let f = c.args.self.now in
-    let same : f.tapes + 1 ≡ tapes_in f.bytes.now + 1 = ap (λ (n : ℕ). n + 1) f.tape_count in
-    front_written (λ n. map (offset_in f.bytes.now) (range_with_len 0 n)) c.args.row.now c.loop-index.slot-items (f.tapes + 1) (tapes_in f.bytes.now + 1) c.loop-index.index c.loop-index.invariant (omega arith) c.loop-index-test.false (omega arith) same
