@@ -94,6 +94,7 @@ impl<'a, K: Kind> Trail<'a, K> {
     }
 
     /// The support of the list.
+    #[tactic(auto, using(crate::proofs::Sounding::counts_list))]
     pub fn support(&self) -> u32
         ensures count { result ≡ self.now.head.count }
         ensures means { Sound K.Kind.order self.now → result ≡ support K.Kind.order (tapes_of self.now) (list_of self.now) }
