@@ -1,12 +1,12 @@
 -- Levels in rows: what writes behind them leave, and how the next one grows entry by entry.
 use Rattle.std.proofs.Common.{◌≡◌, ℕ, zero, suc, ◌+◌, ◌-◌, ◌<◌, ◌≤◌, List, [], ◌∷◌, ◌++◌, length, get_or, Some, None, Option, sym, refl, ap, ◌∙◌, append-nil, add-one, arith, length-append}
+use Rattle.std.proofs.lemmas.Bool.Decides.{nat_tests}
 use Rattle.event.specs.declared.order.Order.{Order}
 use Rattle.matching.specs.Inclusion.{place_after}
 use Rattle.trail.specs.declared.level.Head.{Head}
 use Rattle.trail.specs.declared.level.Rows.{Rows}
 use Rattle.trail.specs.Projection.{entry_of, grown}
 use Rattle.trail.specs.Levels.{entries, level, end, entry_at, Kept}
-use Rattle.std.proofs.lemmas.Bool.Decides.{nat_tests}
 use Rattle.trail.specs.Trials.{reaching}
 use Rattle.trail.proofs.Projections.{grown_append}
 
