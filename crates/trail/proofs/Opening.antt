@@ -1,23 +1,20 @@
 -- The first level: every tape at its first place.
-use Rattle.std.proofs.Common.{◌≡◌, ℕ, zero, suc, ◌+◌, ◌<◌, List, [], ◌∷◌, ◌++◌, length, set, sym, ap, ◌∙◌, append_assoc, append-nil, add-zero, add-one, arith}
+use Rattle.std.proofs.Common.{◌≡◌, ℕ, zero, suc, ◌+◌, ◌<◌, List, [], ◌∷◌, ◌++◌, length, get_or, sym, refl, ap, ◌∙◌, append_assoc, append-nil, add-zero, add-one, arith}
 use Rattle.event.specs.declared.order.Order.{Order}
-use Rattle.trail.specs.declared.level.Rows.{Rows}
 use Rattle.trail.specs.Projection.{projected_from, projection}
 use Rattle.trail.specs.Levels.{entries}
-use Rattle.trail.proofs.Growing.{entries_more}
 
 -- the entries of the first n tapes
 abbrev pub roots : ℕ → List (ℕ × ℕ)
 roots zero = []
 roots (suc n) = roots n ++ (n, 0) ∷ []
 
--- one tape more is laid
-pub roots_more : (rows : Rows) (n : ℕ) → n < length rows.tapes → n < length rows.places → entries rows.tapes rows.places 0 n ≡ roots n → entries (set rows.tapes n n) (set rows.places n 0) 0 (n + 1) ≡ roots (n + 1)
-roots_more rows n a b are =
+-- rows that number the first n tapes, each at its first place
+pub roots_laid : (tapes places : List ℕ) (n : ℕ) → ((k : ℕ) → k < n → get_or tapes k 0 ≡ k) → ((k : ℕ) → k < n → get_or places k 0 ≡ 0) → entries tapes places 0 n ≡ roots n
+roots_laid tapes places zero numbered first = refl
+roots_laid tapes places (suc n) numbered first =
     let z : 0 + n ≡ n = omega arith in
-    (rw z at (entries_more rows 0 n n 0 (omega arith) (omega arith)))
-    ∙ ap (λ (level : List (ℕ × ℕ)). level ++ (n, 0) ∷ []) are
-    ∙ rw add-one
+    rw (z, roots_laid tapes places n (λ k h. numbered k (omega arith)) (λ k h. first k (omega arith)), numbered n (omega arith), first n (omega arith))
 
 module _ {K : Type 0} (order : K → K → Order) where
   roots_from : (n : ℕ) (rest : List (List K)) → roots n ++ projected_from order n rest [] ≡ roots (n + length rest)

@@ -1,5 +1,5 @@
 -- A trail whose levels are projections keeps so, and its counts are supports.
-use Rattle.std.proofs.Common.{◌≡◌, ℕ, zero, suc, ◌+◌, ◌-◌, ◌<◌, ◌≤◌, ◌≢◌, List, [], ◌∷◌, ◌++◌, length, get_or, take, set, sym, refl, ap, ◌∙◌, ⊎_elim, append_assoc, add-zero, arith, get_or-set_other}
+use Rattle.std.proofs.Common.{◌≡◌, ℕ, zero, suc, ◌+◌, ◌-◌, ◌<◌, ◌≤◌, ◌≢◌, List, [], ◌∷◌, ◌++◌, length, get_or, take, set, sym, ap, ◌∙◌, ⊎_elim, add-zero, arith, get_or-set_other}
 use lib.Seq.{take-set-le}
 use Rattle.std.proofs.lemmas.List.{drop_more, take_more_set}
 use Rattle.std.proofs.lemmas.Bool.{cases_lt}
@@ -13,18 +13,19 @@ use Rattle.trail.specs.Levels.{level, end, Kept, Steps}
 use Rattle.trail.specs.Trials.{behind}
 use Rattle.trail.specs.Moves.{stands_at, head_at, Same, Unmoved, Deepened}
 use Rattle.matching.specs.Picks.{picked}
+use Rattle.matching.proofs.Picking.{picked_append}
 use Rattle.trail.specs.Sound.{tapes_of, list_of, LevelStands, Sound, support_with}
 use Rattle.trail.proofs.Projections.{grows, counts}
 use Rattle.trail.proofs.Growing.{entries_kept, length_entries}
 
 module _ {K : Type 0} (lexicon : List K) where
-  picked_append : (places more : List ℕ) → picked lexicon (places ++ more) ≡ picked lexicon places ++ picked lexicon more
-  picked_append [] more = refl
-  picked_append (place ∷ places) more = rw (picked_append places more, append_assoc)
-
   -- a place in the lexicon has one event
   pub picked_one : (place : ℕ) (d : K) → place < length lexicon → picked lexicon (place ∷ []) ≡ get_or lexicon place d ∷ []
   picked_one place d within = ap (λ (events : List K). take 1 events ++ []) (drop_more lexicon place d within)
+
+  -- and so has the event that is read there
+  pub picked_event : (place : ℕ) (event : K) → place < length lexicon → event ≡ get_or lexicon place event → picked lexicon (place ∷ []) ≡ event ∷ []
+  picked_event place event within is = picked_one place event within ∙ ap (λ (e : K). e ∷ []) (sym is)
 
 -- the bounds do not fall
 rise : (bounds : List ℕ) (depth : ℕ) → Steps bounds depth → (k m : ℕ) → k + m ≤ depth + 1 → get_or bounds k 0 ≤ get_or bounds (k + m) 0

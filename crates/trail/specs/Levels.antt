@@ -17,6 +17,10 @@ level rows head = entries rows.tapes rows.places head.start head.count
 abbrev pub end : Head → ℕ
 end head = head.start + head.count
 
+-- the entry at a place of the rows
+abbrev pub entry_at : Rows → ℕ → ℕ × ℕ
+entry_at rows at = (slice_index rows.tapes at, slice_index rows.places at)
+
 -- below a place, the later rows are as the earlier ones
 pub record Kept (n : ℕ) (earlier later : Rows) : Type 0 where
   pub tapes : (i : ℕ) → i < n → slice_index later.tapes i ≡ slice_index earlier.tapes i

@@ -1,10 +1,17 @@
 -- What a trial answers, and how it leaves the head and the rows.
-use Rattle.std.specs.Prelude.{◌≡◌, ℕ, ◌≤◌, Bool, true, false, cond, List, Some, None, Option, nat_le}
+use Rattle.std.specs.Prelude.{◌≡◌, ℕ, ◌≤◌, List, Some, None, Option, nat_le}
+use Rattle.std.specs.Bool.{then_some}
 use Rattle.event.specs.declared.order.Order.{Order}
 use Rattle.trail.specs.declared.level.Head.{Head}
 use Rattle.trail.specs.declared.level.Rows.{Rows}
+use Rattle.trail.specs.declared.tapes.Tapes.{Tapes}
+use Rattle.bundle.specs.Tapes.{tapes}
 use Rattle.trail.specs.Projection.{grown}
 use Rattle.trail.specs.Levels.{level, end}
+
+-- the tapes of the two rows of a bundle
+abbrev pub all_tapes : {K : Type 0} → Tapes K → List (List K)
+all_tapes rows = tapes rows.events.now rows.offsets.now
 
 -- the level that an event gives behind a head's level
 abbrev pub next_level : {K : Type 0} → (K → K → Order) → List (List K) → K → Rows → Head → List (ℕ × ℕ)
@@ -12,17 +19,11 @@ next_level order tapes event rows head = grown order tapes event (level rows hea
 
 -- a count, if it reaches what is needed
 abbrev pub reaching : ℕ → ℕ → Option ℕ
-reaching need count = cond (nat_le need count) (Some count) None
+reaching need count = then_some (nat_le need count) count
 
 -- the head of a level that lies behind a head's level
 abbrev pub behind : Head → ℕ → Head
 behind head count = record { start = end head; count = count }
-
--- the head after a trial: at the next level if the trial reached its need and is kept, and else put back
-abbrev pub head_after : Head → Bool → Option ℕ → Head
-head_after head keep None = head
-head_after head true (Some count) = behind head count
-head_after head false (Some count) = head
 
 -- a trial that answers has laid the next level behind the head's, where no more entries are than in the head's
 abbrev pub Laid : List (ℕ × ℕ) → Head → Rows → Option ℕ → Type 0

@@ -5,5 +5,6 @@ pub mod level;
 pub mod moves;
 pub mod projection;
 pub mod sample;
+pub mod tapes;
 pub mod trail;
 pub mod trial;

@@ -1,28 +1,28 @@
 ghost use Rattle.std.specs.Prelude.{◌≡◌, ℕ, ◌<◌, ◌≤◌, [], ◌∷◌, length, slice_index};
 ghost use Rattle.matching.specs.Support.{support};
 ghost use Rattle.trail.specs.Moves.{stands_at, Same, Unmoved, Deeper, Back, Opened};
+ghost use Rattle.trail.specs.Trials.{all_tapes};
 ghost use Rattle.trail.specs.Sound.{tapes_of, list_of, support_with, Sound, DeeperMeans};
 
 use crate::level::{Head, MOST_LENGTH, ROOM, Rows};
+use crate::tapes::Tapes;
 use crate::trail::Trail;
-use crate::trial::run_trial;
+use crate::trial::Trial;
 use event::kind::Kind;
 
 impl<'a, K: Kind> Trail<'a, K> {
     /// Stands at the empty list, with every tape at its first place.
     pub fn open(events: &'a [K], offsets: &'a [u32], lexicon: &'a [K]) -> Trail<'a, K>
-        requires { (1 ≤ length offsets.now) × (length offsets.now ≤ 513) }
+        requires some { 1 ≤ length offsets.now }
+        requires few { length offsets.now ≤ 513 }
         ensures opened { Opened events.entry offsets.entry lexicon.entry result }
         ensures sound { Sound K.Kind.order result }
     {
-        let mut rows = Rows {
-            tapes: [0; ROOM],
-            places: [0; ROOM],
-        };
         let count = offsets.len() - 1;
-        for tape in 0..count {
-            rows.tapes[tape] = tape as u16;
-            rows.places[tape] = 0;
+        let mut tapes = [0; ROOM];
+        let roots = &mut tapes[..count];
+        for (tape, root) in roots.iter_mut().enumerate() {
+            *root = tape as u16;
         }
         let mut bounds = [0; MOST_LENGTH + 2];
         bounds[1] = count;
@@ -30,7 +30,10 @@ impl<'a, K: Kind> Trail<'a, K> {
             events,
             offsets,
             lexicon,
-            rows,
+            rows: Rows {
+                tapes,
+                places: [0; ROOM],
+            },
             head: Head { start: 0, count },
             bounds,
             list: [0; MOST_LENGTH],
@@ -48,24 +51,14 @@ impl<'a, K: Kind> Trail<'a, K> {
         if self.depth >= MOST_LENGTH {
             return None;
         }
-        if place as usize >= self.lexicon.len() {
-            return None;
-        }
-        let event = &self.lexicon[place as usize];
-        let Some(count) = run_trial(
-            &mut self.head,
-            &mut self.rows,
-            self.events,
-            self.offsets,
-            event,
-            need,
-            true,
-        ) else {
-            return None;
-        };
+        let event = self.lexicon.get(place as usize)?;
+        let tapes = self.tapes();
+        let mut trial = Trial::new(&mut self.head);
+        let count = trial.run(&mut self.rows, tapes, event, need)?;
+        trial.keep();
         self.list[self.depth] = place;
         self.depth += 1;
-        self.bounds[self.depth + 1] = self.head.start + self.head.count;
+        self.bounds[self.depth + 1] = self.head.end();
         Some(count)
     }
 
@@ -95,22 +88,13 @@ impl<'a, K: Kind> Trail<'a, K> {
         ensures means { Sound K.Kind.order self.old → result ≡ support_with K.Kind.order self.old (event.now ∷ []) }
         ensures sound { Sound K.Kind.order self.old → Sound K.Kind.order self.new }
     {
-        let answer = run_trial(
-            &mut self.head,
-            &mut self.rows,
-            self.events,
-            self.offsets,
-            event,
-            0,
-            false,
-        );
-        match answer {
-            Some(count) => count,
-            None => 0,
-        }
+        let tapes = self.tapes();
+        let mut trial = Trial::new(&mut self.head);
+        trial.run(&mut self.rows, tapes, event, 0).unwrap_or(0)
     }
 
     /// The support of the list.
+    #[tactic(auto, using(crate::proofs::Sounding::counts_list))]
     pub fn support(&self) -> u32
         ensures count { result ≡ self.now.head.count }
         ensures means { Sound K.Kind.order self.now → result ≡ support K.Kind.order (tapes_of self.now) (list_of self.now) }
@@ -123,7 +107,7 @@ impl<'a, K: Kind> Trail<'a, K> {
         ensures list { result.now ≡ stands_at self.now }
         ensures known { (k : ℕ) → k < length result.now → slice_index result.now k < length self.now.lexicon.now }
     {
-        &self.list[0..self.depth]
+        &self.list[..self.depth]
     }
 
     /// How many events the list has.
@@ -138,5 +122,15 @@ impl<'a, K: Kind> Trail<'a, K> {
         ensures { result ≡ self.now.lexicon }
     {
         self.lexicon
+    }
+
+    // The tapes that the trail goes over.
+    fn tapes(&self) -> Tapes<'a, K>
+        ensures { all_tapes result ≡ tapes_of self.now }
+    {
+        Tapes {
+            events: self.events,
+            offsets: self.offsets,
+        }
     }
 }

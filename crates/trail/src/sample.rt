@@ -7,7 +7,9 @@ use event::kind::Kind;
 
 // The support of one event in tapes that are overwritten as soon as no trail goes over them.
 fn sample<'a, K: Kind>(events: &'a mut [K], offsets: &'a [u32], lexicon: &'a [K], event: &K) -> u32
-    requires { (1 ≤ length events.old) × ((1 ≤ length offsets.now) × (length offsets.now ≤ 513)) }
+    requires event { 1 ≤ length events.old }
+    requires some { 1 ≤ length offsets.now }
+    requires few { length offsets.now ≤ 513 }
     ensures { result ≡ support K.Kind.order (tapes events.old offsets.now) (event.now ∷ []) }
 {
     let mut trail = Trail::open(events, offsets, lexicon);

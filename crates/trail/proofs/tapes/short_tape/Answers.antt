@@ -2,7 +2,7 @@ use Rattle.std.proofs.Common.{ℕ, ◌+◌, ◌-◌, ◌^◌, ◌<◌, ◌≤◌
 use Rattle.std.proofs.lemmas.Bool.{cases_lt}
 use Rattle.bundle.specs.Tapes.{tapes}
 use Rattle.bundle.proofs.Cuts.{tape_between, tape_past}
-use Rattle.trail.proofs.trial.next_place.Goals as goal
+use Rattle.trail.proofs.tapes.short_tape.Goals as goal
 
 -- a tape is no longer than the offset where it ends
 short : {K : Type 0} (events : List K) (offsets : List ℕ) (number : ℕ) → ((i : ℕ) → get_or offsets i 0 < 2 ^ 32) → length (get_or (tapes events offsets) number []) < 2 ^ 32
@@ -17,7 +17,7 @@ short events offsets number fit =
     (λ (h : length offsets ≤ number + 1). omega (arith, ap length (tape_past events offsets number h)))
     (cases_lt (number + 1) (length offsets))
 
-pub overflow_cast-result : goal.overflow_cast-result
-overflow_cast-result g c =
-    let s = short c.args.events.now c.args.offsets.now c.args.tape (λ i. let f = c.type_inv.offsets i in omega arith) in
-    omega (arith, rw c.tape_at.ensures at c.in-Some.ensures.bound.1)
+pub returns-clause-short : goal.returns-clause-short
+returns-clause-short g c =
+    let s = short c.args.events.now c.args.offsets.now c.args.number (λ i. let f = c.type_inv.offsets i in omega arith) in
+    omega (arith, ap length c.tape_at.ensures)
