@@ -8,6 +8,7 @@ use trail::trail::Trail;
 #[derive(Drop)]
 pub struct Walk<'a, K> {
     pub(crate) trail: Trail<'a, K>,
+    // filled once, with any event, so that no later call needs memory
     pub(crate) room: Vec<K>,
     pub(crate) longest: usize,
     ghost few: { length trail.lexicon.now ≤ 1024 },
