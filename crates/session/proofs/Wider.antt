@@ -1,5 +1,5 @@
 -- A next is answered alike with a row of another length, if it is refused alike.
-use Rattle.std.proofs.Common.{◌≡◌, ℕ, ◌-◌, ◌<◌, ◌≤◌, min, Bool, true, leb, ◌⊎◌, List, [], ◌∷◌, length, take, sym, refl, ap, ◌∙◌, subst, inl, inr, arith}
+use Rattle.std.proofs.Common.{◌≡◌, ℕ, ◌<◌, ◌≤◌, min, Bool, true, leb, ◌⊎◌, List, [], ◌∷◌, length, take, sym, refl, ap, ◌∙◌, subst, inl, inr, arith}
 use Rattle.std.proofs.lemmas.List.{length-take-le}
 use Rattle.std.proofs.lemmas.Bool.{le-leb, lt-leb, cases_lt}
 use Rattle.event.specs.declared.order.Order.{Order}
@@ -102,7 +102,7 @@ abbrev pub zeros : List ℕ
 zeros = 0 ∷ 0 ∷ 0 ∷ 0 ∷ 0 ∷ 0 ∷ 0 ∷ 0 ∷ 0 ∷ 0 ∷ 0 ∷ 0 ∷ 0 ∷ 0 ∷ 0 ∷ 0 ∷ []
 
 abbrev pub part : ℕ → List ℕ
-part k = take (k - 0) zeros
+part k = take k zeros
 
 pub part_length : (k m : ℕ) → k ≡ min m 16 → length (part k) ≡ min m 16
-part_length k m e = length-take-le (k - 0) zeros (omega (arith, e)) ∙ omega (arith, e)
+part_length k m e = length-take-le k zeros (omega (arith, e)) ∙ omega (arith, e)

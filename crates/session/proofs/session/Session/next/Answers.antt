@@ -90,7 +90,7 @@ pub returns-in_default-next_pattern : goal.returns-in_default-next_pattern
 returns-in_default-next_pattern g c =
     let order = g.K.Kind.order in
     let s = c.args.self.now in
-    let walk = c.next_pattern.new.walk in
+    let walk = c.next_pattern.new.self in
     let w = g.F.Filter.wants c.args.filter.now in
     let m = length c.args.row.now in
     let on = passed_by (closed s.stage) tt _ c.hear.ensures _ c.in_ok-hear.was in
@@ -98,11 +98,12 @@ returns-in_default-next_pattern g c =
     let going = c.in_default.not-Ended in
     let same = c.in_default-next_pattern.ensures.same in
     let finds = c.in_default-next_pattern.ensures.finds in
+    let sounds = c.in_default-next_pattern.ensures.sound in
     record {
       refused = sym e;
       after = (record { rows = same; stage = refl; threshold = refl; skipped = refl; count = refl }, λ n. absurd (going n));
       row_after = refl;
-      means = λ sound. ((finds sound).0, λ n. (finds sound).1);
+      means = λ sound. (sounds sound, λ n. finds sound);
       extends = λ h st.
           let o = open_over order s h st on in
           follows order s _ h st (law.Ended w m) (
@@ -110,7 +111,7 @@ returns-in_default-next_pattern g c =
             inr (held (law.opening h) (λ (x : Opening _). (q : List ℕ) → Eligible (world order) x h w q → ⊥) o.0 o.1
                 (ends (world order) o.0 h w (limits_of s.walk s.threshold) (walks.support_of order s.walk) (walks.wants_of w s.walk) (at s.walk) s.skipped
                 o.2.longest (ap length o.2.lexicon) (same_support order s.walk o.0 o.2) (same_wants order w s.walk o.0 o.2)
-                st.remembers.threshold (st.remembers.latest going) (st.remembers.skipped going) (at walk) (finds st.sound).1)),
+                st.remembers.threshold (st.remembers.latest going) (st.remembers.skipped going) (at walk) (finds st.sound))),
           )
           (record {
             under = (o.0, o.1, same_over s.walk walk o.0 same o.2);
@@ -120,14 +121,14 @@ returns-in_default-next_pattern g c =
             threshold = st.remembers.threshold;
             count = st.remembers.count;
           })
-          (finds st.sound).0;
+          (sounds st.sound);
     }
 
 pub returns : goal.returns
 returns g c =
     let order = g.K.Kind.order in
     let s = c.args.self.now in
-    let walk = c.next_pattern.new.walk in
+    let walk = c.next_pattern.new.self in
     let w = g.F.Filter.wants c.args.filter.now in
     let row = c.args.row.now in
     let m = length row in
@@ -137,15 +138,17 @@ returns g c =
     let going = c.in_default.not-Ended in
     let same = c.in-Some.ensures.same in
     let finds = c.in-Some.ensures.finds in
-    let list = c.places.ensures.list in
-    let laid = c.lay_places-length.ensures.laid ∙ ap (λ (p : List ℕ). p ++ drop (length p) row) list in
-    let count = c.lay_places-length.ensures.count ∙ ap length list in
+    let sounds = c.in-Some.ensures.sound in
+    let list = c.places-places.ensures.list in
+    let laid : c.copy_from_slice.new.self ++ drop (length c.places-places.result.now) row ≡ at walk ++ drop (length (at walk)) row =
+    ap (λ (l : List ℕ). l ++ drop (length c.places-places.result.now) row) c.copy_from_slice.ensures.after ∙ ap (λ (p : List ℕ). p ++ drop (length p) row) list in
+    let count : length c.places-places.result.now ≡ length (at walk) = ap length list in
     let t : Session _ = record { walk = walk; stage = stages.Listing; threshold = s.threshold; skipped = false; count = c.saturating_add-self.result } in
     record {
       refused = sym e;
       after = (record { rows = same; stage = refl; threshold = refl; skipped = refl; count = omega (arith, c.saturating_add-self.ensures) }, count);
       row_after = laid;
-      means = λ sound. ((finds sound).0, λ n. (finds sound).1);
+      means = λ sound. (sounds sound, λ n. finds sound);
       extends = λ h st.
           let o = open_over order s h st on in
           subst (λ (p : List ℕ). Follows order (law.Next w m) (law.pattern p n) t h) (sym (front_of (at walk) row _ _ count laid))
@@ -155,7 +158,7 @@ returns g c =
             held (law.opening h) (λ (x : Opening _). IsFirst (Eligible (world order) x h w) (at walk) × (n ≡ support_of (world order) x (at walk))) o.0 o.1
                 (gives (world order) o.0 h w (limits_of s.walk s.threshold) (walks.support_of order s.walk) (walks.wants_of w s.walk) (at s.walk) s.skipped
                 o.2.longest (ap length o.2.lexicon) (same_support order s.walk o.0 o.2) (same_wants order w s.walk o.0 o.2)
-                st.remembers.threshold (st.remembers.latest going) (st.remembers.skipped going) (at walk) n (finds st.sound).1),
+                st.remembers.threshold (st.remembers.latest going) (st.remembers.skipped going) (at walk) n (finds st.sound)),
           )
           (record {
             under = (o.0, o.1, same_over s.walk walk o.0 same o.2);
@@ -165,5 +168,5 @@ returns g c =
             threshold = st.remembers.threshold;
             count = omega (arith, c.saturating_add-self.ensures, st.remembers.count);
           })
-          (finds st.sound).0);
+          (sounds st.sound));
     }

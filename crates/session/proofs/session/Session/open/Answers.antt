@@ -14,7 +14,7 @@ pub open-requires : goal.open-requires
 open-requires g c =
     let o = opening_of c.args.opening in
     let f = fits g.K.Kind.order o (passed_by (opening_refusal g.K.Kind.order o) tt _ c.check_opening.ensures _ c.in_ok-check_opening.was) in
-    (f.offsets, (f.tapes, (f.lexicon, f.longest)))
+    record { first = f.offsets; tapes = f.tapes; words = f.lexicon; short = f.longest }
 
 pub returns-in_err-check_opening : goal.returns-in_err-check_opening
 returns-in_err-check_opening g c =

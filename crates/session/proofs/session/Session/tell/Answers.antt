@@ -1,4 +1,4 @@
-use Rattle.std.proofs.Common.{Option, Result, sym, refl, ap, ◌∙◌, subst}
+use Rattle.std.proofs.Common.{Option, Result, sym, ap, ◌∙◌, subst}
 use Rattle.event.specs.declared.refusal.Refusal.{Refusal}
 use Rattle.law.specs.declared.stage.Ask.TheVariants as asks
 use Rattle.law.specs.Rules.{stage_refusal}
@@ -18,7 +18,6 @@ returns-in_err-hear g c =
     let out = exits c.from_residual.result f c.from_residual.ensures.1 in
     record {
       answer = out ∙ sym (ap (λ (o : Option Refusal). or_refused o (s.threshold, s.count)) e);
-      after = refl;
       extends =
           subst (λ (r : Result _ Refusal). Extends g.K.Kind.order law.Tell (says_told r) s s) (sym out)
           (refuses g.K.Kind.order s law.Tell f (λ h st. by_stage g.K.Kind.order s h st asks.Tell ∙ e));
@@ -30,7 +29,6 @@ returns g c =
     let e = passed_by (stage_refusal s.stage asks.Tell) tt _ c.hear.ensures _ c.in_ok-hear.was in
     record {
       answer = sym (ap (λ (o : Option Refusal). or_refused o (s.threshold, s.count)) e);
-      after = refl;
       extends = λ h st.
           follows g.K.Kind.order s s h st (law.Besides (law.Told s.threshold s.count))
           (by_stage g.K.Kind.order s h st asks.Tell ∙ e, st.remembers.threshold, st.remembers.count)
