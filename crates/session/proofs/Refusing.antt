@@ -50,7 +50,3 @@ all_pass (Some f) b c e = absurd (some_none f e)
 pub passes : (b : Bool) (f : Refusal) → unless b f ≡ None → b ≡ true
 passes true f e = refl
 passes false f e = absurd (some_none f e)
-
--- a refused call leaves the session
-pub stays : {X K : Type 0} (r : Result X Refusal) (s : Session K) (left : X → Type 0) (f : Refusal) → r ≡ Err f → Leaves r s s left
-stays r s left f e = subst (λ (x : Result _ Refusal). Leaves x s s left) (sym e) refl
