@@ -1,7 +1,7 @@
 ghost use Rattle.std.specs.Prelude.{◌≡◌, ℕ, ◌<◌, true, false, List, length, ◌≢◌};
 ghost use Rattle.law.specs.Order.{Begins, IsPattern};
-ghost use Rattle.search.specs.Turns.{Stands, Left, Rests, Moves, Turned, Reached, Stops, Finds};
-ghost use Rattle.search.specs.Walks.{at, lexicon_of, Sound, support_of, wants_of, limits_of, SameRows};
+ghost use Rattle.search.specs.Turns.{Stands, Left, Rests, Moves, Stops};
+ghost use Rattle.search.specs.Walks.{at, lexicon_of, Sound, wants_of, limits_of, SameRows, TurnedOver, ReachedOver, FindsOver};
 
 use crate::turn::Turn;
 use crate::walk::Walk;
@@ -34,7 +34,7 @@ impl<'a, K: Kind> Walk<'a, K> {
         ensures same { SameRows self.old self.new }
         ensures rests { Rests (limits_of self.old need) (at self.new) result }
         ensures sound { Sound K.Kind.order self.old → Sound K.Kind.order self.new }
-        ensures reached { Reached (limits_of self.old need) (support_of K.Kind.order self.old) (wants_of (F.Filter.wants filter.now) self.old) (at self.old) skip (at self.new) result }
+        ensures reached { ReachedOver K.Kind.order (F.Filter.wants filter.now) need self.old self.new skip result }
     {
         if skip || self.is_closed(filter) {
             return self.leave();
@@ -48,7 +48,7 @@ impl<'a, K: Kind> Walk<'a, K> {
         ensures same { SameRows self.old self.new }
         ensures moved { Moves (limits_of self.old need) (at self.old) place (at self.new) result }
         ensures sound { Sound K.Kind.order self.old → Sound K.Kind.order self.new }
-        ensures turned { Sound K.Kind.order self.old → Turned (limits_of self.old need) (support_of K.Kind.order self.old) (wants_of (F.Filter.wants filter.now) self.old) (at self.old) place (at self.new) result }
+        ensures turned { Sound K.Kind.order self.old → TurnedOver K.Kind.order (F.Filter.wants filter.now) need self.old self.new place result }
     {
         if place >= self.lexicon_length() {
             return self.leave();
@@ -70,7 +70,7 @@ impl<'a, K: Kind> Walk<'a, K> {
         ensures same { SameRows self.old self.new }
         ensures moved { Stops (limits_of self.old need) (at self.new) result }
         ensures sound { Sound K.Kind.order self.old → Sound K.Kind.order self.new }
-        ensures finds { Sound K.Kind.order self.old → Finds (limits_of self.old need) (support_of K.Kind.order self.old) (wants_of (F.Filter.wants filter.now) self.old) (at self.old) skip (at self.new) result }
+        ensures finds { Sound K.Kind.order self.old → FindsOver K.Kind.order (F.Filter.wants filter.now) need self.old self.new skip result }
     {
         // `skip` is one more ground for leaving the list: two functions would share all the rest
         let mut turn = self.begin(filter, need, skip);

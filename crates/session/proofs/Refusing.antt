@@ -3,8 +3,7 @@ use Rattle.std.proofs.Common.{◌≡◌, Bool, true, false, List, [], ◌∷◌,
 use Rattle.std.proofs.lemmas.Result.{err_from_is_err_and}
 use Rattle.event.specs.declared.refusal.Refusal.{Refusal}
 use Rattle.matching.specs.Checks.{or_refused, unless, first_wrong}
-use Rattle.session.specs.Calls.{refusal_in, Leaves}
-use Rattle.session.specs.declared.session.Session.{Session}
+use Rattle.session.specs.Calls.{refusal_in}
 
 -- the exit of a `?`
 pub exits : {X : Type 0} (r : Result X Refusal) (f : Refusal) → IsErrAnd r (λ y. y ≡ f) → r ≡ Err f

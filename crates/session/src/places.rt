@@ -16,6 +16,6 @@ impl Places {
     pub fn list(&self) -> &[u16]
         ensures { result.now ≡ take self.now.length self.now.row }
     {
-        &self.row[0..self.length]
+        &self.row[..self.length]
     }
 }
