@@ -30,6 +30,7 @@ impl<'a, K: Kind> Walk<'a, K> {
     }
 
     // The first turn: goes below the latest pattern, or past it.
+    // The filter and the need stay two arguments: a struct of them would be made for one call, and taken apart in it.
     fn begin<F: Filter<K>>(&mut self, filter: &F, need: u32, skip: bool) -> Turn
         ensures same { SameRows self.old self.new }
         ensures rests { Rests (limits_of self.old need) (at self.new) result }

@@ -31,6 +31,7 @@ impl<'a, K: Kind> Walk<'a, K> {
         ensures opened { Opened events.entry offsets.entry lexicon.entry longest self.new }
         ensures sound { Sound K.Kind.order self.new }
     {
+        // the rows stay three arguments, as the trail takes them
         self.trail = Trail::open(events, offsets, lexicon);
         self.longest = longest;
     }
