@@ -1,6 +1,6 @@
 -- The events of the list at which a walk stands, the rows that it keeps, and what its trail's answers mean for lists of places.
-use Rattle.std.proofs.Common.{◌≡◌, ℕ, zero, suc, ◌+◌, ◌-◌, ◌<◌, ◌≤◌, Bool, true, false, List, [], ◌∷◌, ◌++◌, length, get_or, take, drop, set, sym, refl, ap, ◌∙◌, subst, append_assoc, append-nil, arith, length-append, take-append-drop, length-take, take_all, take_at, Bor}
-use Rattle.std.proofs.lemmas.List.{take-take, take_more, take_more_set, get_or-take}
+use Rattle.std.proofs.Common.{◌≡◌, ℕ, zero, suc, ◌+◌, ◌<◌, Bool, true, false, List, [], ◌∷◌, ◌++◌, length, get_or, take, drop, set, sym, refl, ap, ◌∙◌, subst, append_assoc, append-nil, arith, length-append, take-append-drop, length-take, take_at, Bor}
+use Rattle.std.proofs.lemmas.List.{take-take, take_more_set, get_or-take}
 use Rattle.std.proofs.lemmas.Bool.{both_ways}
 use Rattle.event.specs.declared.order.Order.{Order}
 use Rattle.bundle.specs.Tapes.{tapes}
@@ -10,7 +10,7 @@ use Rattle.matching.specs.Support.{support}
 use Rattle.matching.proofs.Counting.{support_falls}
 use Rattle.matching.proofs.Picking.{picked_append, length_picked}
 use Rattle.trail.specs.declared.trail.Trail.{Trail}
-use Rattle.trail.specs.Moves.{stands_at, Same, Unmoved, Deepened, Back}
+use Rattle.trail.specs.Moves.{stands_at, Same, Deepened, Back}
 use Rattle.trail.proofs.Sounding.{picked_one}
 use Rattle.law.specs.Order.{Begins, AllBelow, IsPattern}
 use Rattle.search.specs.declared.walk.Walk.{Walk}
@@ -30,18 +30,6 @@ within_trail trail k h =
 
 pub below_walk : {K : Type 0} (walk : Walk K) → AllBelow (length (lexicon_of walk)) (at walk)
 below_walk walk = all_below (length (lexicon_of walk)) (at walk) (within_trail walk.trail)
-
-pub stands_unmoved : {K : Type 0} (before after : Trail K) → Unmoved before after → stands_at after ≡ stands_at before
-stands_unmoved before after un = rw (un.depth, un.list)
-
--- a list without its last place
-pub last_off : (p p' : List ℕ) (n d : ℕ) → n + 1 ≡ d → d ≡ length p → p' ≡ take n p → p ≡ p' ++ (get_or p (d - 1) 0 ∷ [])
-last_off p p' n d next len front =
-    let at : n ≡ d - 1 = omega arith in
-    sym (ap (λ (k : ℕ). take k p) (next ∙ len) ∙ take_all (length p) p (omega arith))
-    ∙ take_more p n 0 (omega arith)
-    ∙ ap (λ (l : List ℕ). l ++ (get_or p n 0 ∷ [])) (sym front)
-    ∙ ap (λ (k : ℕ). p' ++ (get_or p k 0 ∷ [])) at
 
 module _ {K : Type 0} (lexicon room : List K) where
   -- the room spells a list with one place more
@@ -64,11 +52,8 @@ module _ {K : Type 0} (lexicon room : List K) where
       ∙ take_at (picked lexicon p') (picked lexicon more) (length p') (length_picked lexicon p' known)
 
 module _ {K : Type 0} (lexicon : List K) where
-  -- the support of a list, and of the list with one place more
+  -- the support of all that extends a list by a place, where the list with the place has too little
   module _ (order : K → K → Order) (tapes : List (List K)) (p : List ℕ) (place : ℕ) where
-    pub counted : (count : ℕ) → count ≡ support order tapes (picked lexicon p ++ picked lexicon (place ∷ [])) → count ≡ support order tapes (picked lexicon (p ++ (place ∷ [])))
-    counted count e = e ∙ ap (support order tapes) (sym (picked_append lexicon p (place ∷ [])))
-
     pub rare : (need : ℕ) → support order tapes (picked lexicon p ++ picked lexicon (place ∷ [])) < need → (more : List ℕ) → support order tapes (picked lexicon (p ++ (place ∷ more))) < need
     rare need few more =
         let child = picked lexicon p ++ picked lexicon (place ∷ []) in
@@ -96,9 +81,6 @@ module _ {K : Type 0} (lexicon : List K) where
 
 -- A walk's facts as its trail moves
 module _ {K : Type 0} (before after : Trail K) (same : Same before after) where
-  pub few_same : length before.lexicon.now ≤ 1024 → length after.lexicon.now ≤ 1024
-  few_same few = omega (arith, ap (λ (r : Bor (List K)). length r.now) same.lexicon)
-
   -- the room spells the list with the lexicon kept
   spelled_same : (room : List K) (p : List ℕ) → take (length p) room ≡ picked before.lexicon.now p → take (length p) room ≡ picked after.lexicon.now p
   spelled_same room p spelled = spelled ∙ ap (λ (r : Bor (List K)). picked r.now p) (sym same.lexicon)
@@ -114,27 +96,13 @@ module _ {K : Type 0} (before after : Trail K) (same : Same before after) where
       (drop after.depth (stands_at before), sym (ap (λ (l : List ℕ). l ++ drop after.depth (stands_at before)) back.stands ∙ take-append-drop after.depth (stands_at before)))
   back_front false back = ([], ap stands_at (sym back.1) ∙ sym (append-nil (stands_at after)))
 
-  pub fit_back : (b : Bool) → Back before b after → length (stands_at after) ≤ length (stands_at before)
-  fit_back b back =
-      let f = back_front b back in
-      omega (arith, ap length f.1, length-append (stands_at after) f.0)
-
   pub spelled_back : (b : Bool) (room : List K) → Back before b after → take (length (stands_at before)) room ≡ picked before.lexicon.now (stands_at before) → take (length (stands_at after)) room ≡ picked after.lexicon.now (stands_at after)
   spelled_back b room back spelled =
       let f = back_front b back in
       spelled_front after.lexicon.now room (stands_at before) (stands_at after) f.0 f.1 (within_trail after) (spelled_same room (stands_at before) spelled)
 
 module _ {K : Type 0} where
-  -- what a walk goes over is kept where its trail keeps it
-  pub same_trail : (before after : Walk K) → Same before.trail after.trail → after.longest ≡ before.longest → SameRows before after
-  same_trail before after same longest =
-      record { events = same.events; offsets = same.offsets; lexicon = same.lexicon; longest = longest }
-
-  -- a walk that stays keeps it
-  pub same_self : (walk : Walk K) → SameRows walk walk
-  same_self walk = record { events = refl; offsets = refl; lexicon = refl; longest = refl }
-
-  -- and two moves keep it where each does
+  -- two moves keep what a walk goes over where each does
   pub same_more : (first second third : Walk K) → SameRows first second → SameRows second third → SameRows first third
   same_more first second third a b =
       record {

@@ -7,7 +7,8 @@ use Rattle.matching.specs.Support as matching
 use Rattle.trail.specs.Moves as moves
 use Rattle.trail.specs.Sound as trails
 use Rattle.search.specs.declared.walk.Walk.{Walk}
-use Rattle.search.specs.Turns.{Limits}
+use Rattle.search.specs.declared.turn.Turn.{Turn}
+use Rattle.search.specs.Turns.{Limits, Turned, Reached, Finds}
 
 module _ {K : Type 0} where
   -- the list at which a walk stands, as places of its lexicon
@@ -63,6 +64,23 @@ module _ {K : Type 0} where
     pub longest : walk.longest ≡ 0
     pub stands : at walk ≡ []
     pub sound : Sound order walk
+
+-- a search over a walk, for what a filter wants with the support that it needs, which came from the walk before to the one after
+module _ {K : Type 0} (order : K → K → Order) (wants : List K → Bool) (need : ℕ) (before after : Walk K) where
+  -- by a turn that tried the child i
+  abbrev pub TurnedOver : ℕ → Turn → Type 0
+  TurnedOver i turn =
+      Turned (limits_of before need) (support_of order before) (wants_of wants before) (at before) i (at after) turn
+
+  -- by all turns so far, the last of which came to this
+  abbrev pub ReachedOver : Bool → Turn → Type 0
+  ReachedOver skip turn =
+      Reached (limits_of before need) (support_of order before) (wants_of wants before) (at before) skip (at after) turn
+
+  -- by what it found
+  abbrev pub FindsOver : Bool → Option ℕ → Type 0
+  FindsOver skip found =
+      Finds (limits_of before need) (support_of order before) (wants_of wants before) (at before) skip (at after) found
 
 -- how a walk at p goes deeper: where it answers, to the child, whose count reaches what is needed; and else it stays
 abbrev pub Deeper : List ℕ → ℕ → ℕ → Option ℕ → List ℕ → Type 0

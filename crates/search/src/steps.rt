@@ -10,52 +10,43 @@ use std::alloc::{AllocError, Global};
 use trail::level::MOST_LENGTH;
 use trail::trail::Trail;
 
-// Room for the events of the longest list, filled with one event.
-fn blanks<K: Kind>(blank: K, heap: Global) -> Result<Vec<K>, AllocError>
-    ensures { IfOk result (λ v. length v.items ≡ 16) }
-{
-    let mut all = Vec::new(heap);
-    for _i in 0..MOST_LENGTH {
-        all.push(blank)?;
-    }
-    Ok(all)
-}
-
 impl<'a, K: Kind> Walk<'a, K> {
     /// Stands at the empty list, over no tapes and no lexicon. Any event will do to fill the room.
     pub fn fresh(blank: K, heap: Global) -> Result<Walk<'a, K>, AllocError>
         ensures { IfOk result (λ walk. Fresh K.Kind.order walk) }
     {
-        let room = blanks(blank, heap)?;
         Ok(Walk {
             trail: Trail::open(&[], &[0], &[]),
-            room,
+            room: vec![in heap; blank; MOST_LENGTH]?,
             longest: 0,
         })
     }
 
     /// Stands at the empty list, over these tapes and this lexicon. The caller has checked their sizes.
     pub fn open(&mut self, events: &'a [K], offsets: &'a [u32], lexicon: &'a [K], longest: usize)
-        requires { (1 ≤ length offsets.now) × ((length offsets.now ≤ 513) × ((length lexicon.now ≤ 1024) × (longest ≤ 16))) }
+        requires first { 1 ≤ length offsets.now }
+        requires tapes { length offsets.now ≤ 513 }
+        requires words { length lexicon.now ≤ 1024 }
+        requires short { longest ≤ 16 }
         ensures opened { Opened events.entry offsets.entry lexicon.entry longest self.new }
         ensures sound { Sound K.Kind.order self.new }
     {
+        // the rows stay three arguments, as the trail takes them
         self.trail = Trail::open(events, offsets, lexicon);
         self.longest = longest;
     }
 
     /// Goes deeper by a place of the lexicon, and returns the support of the longer list; where that is below what is needed, the walk stays where it stands.
     pub(crate) fn deeper(&mut self, place: u16, need: u32) -> Option<u32>
-        requires { (length (at self.old) < self.old.longest) × (place < length (lexicon_of self.old)) }
+        requires short { length (at self.old) < self.old.longest }
+        requires known { place < length (lexicon_of self.old) }
         ensures same { SameRows self.old self.new }
         ensures moved { Deeper (at self.old) place need result (at self.new) }
         ensures means { Sound K.Kind.order self.old → DeeperMeans (support_of K.Kind.order self.old) (at self.old) place need result }
         ensures sound { Sound K.Kind.order self.old → Sound K.Kind.order self.new }
     {
         let depth = self.trail.depth();
-        let Some(count) = self.trail.deeper(place, need) else {
-            return None;
-        };
+        let count = self.trail.deeper(place, need)?;
         self.room[depth] = self.trail.lexicon()[place as usize];
         Some(count)
     }
@@ -66,14 +57,10 @@ impl<'a, K: Kind> Walk<'a, K> {
         ensures moved { Back (at self.old) result (at self.new) }
         ensures sound { Sound K.Kind.order self.old → Sound K.Kind.order self.new }
     {
-        let depth = self.trail.depth();
-        if depth == 0 {
-            return None;
-        }
-        let last = self.trail.places()[depth - 1];
-        if !self.trail.back() {
-            return None;
-        }
+        // by the depth and not by `last()`, as the depth's contract ties the places to the levels
+        let end = self.trail.depth().checked_sub(1)?;
+        let last = self.trail.places()[end];
+        self.trail.back();
         Some(last)
     }
 

@@ -10,7 +10,7 @@ impl<'a, K: Kind> Walk<'a, K> {
     pub(crate) fn list(&self) -> &[K]
         ensures { result.now ≡ picked (lexicon_of self.now) (at self.now) }
     {
-        &self.room[0..self.trail.depth()]
+        &self.room[..self.trail.depth()]
     }
 
     /// The list, as places of the lexicon.

@@ -7,7 +7,9 @@ use trail::trail::Trail;
 /// A walk over the lists of an opening: the trail, room for the events of the list at which it stands, and the longest length.
 #[derive(Drop)]
 pub struct Walk<'a, K> {
+    // that the trail is sound stands in the calls' contracts: here it would need the kind's bound on the struct
     pub(crate) trail: Trail<'a, K>,
+    // filled once, with any event, so that no later call needs memory
     pub(crate) room: Vec<K>,
     pub(crate) longest: usize,
     ghost few: { length trail.lexicon.now ≤ 1024 },

@@ -3,8 +3,7 @@ use Rattle.std.proofs.Common.{◌≡◌, Bool, true, false, List, [], ◌∷◌,
 use Rattle.std.proofs.lemmas.Result.{err_from_is_err_and}
 use Rattle.event.specs.declared.refusal.Refusal.{Refusal}
 use Rattle.matching.specs.Checks.{or_refused, unless, first_wrong}
-use Rattle.session.specs.Calls.{refusal_in, Leaves}
-use Rattle.session.specs.declared.session.Session.{Session}
+use Rattle.session.specs.Calls.{refusal_in}
 
 -- the exit of a `?`
 pub exits : {X : Type 0} (r : Result X Refusal) (f : Refusal) → IsErrAnd r (λ y. y ≡ f) → r ≡ Err f
@@ -50,7 +49,3 @@ all_pass (Some f) b c e = absurd (some_none f e)
 pub passes : (b : Bool) (f : Refusal) → unless b f ≡ None → b ≡ true
 passes true f e = refl
 passes false f e = absurd (some_none f e)
-
--- a refused call leaves the session
-pub stays : {X K : Type 0} (r : Result X Refusal) (s : Session K) (left : X → Type 0) (f : Refusal) → r ≡ Err f → Leaves r s s left
-stays r s left f e = subst (λ (x : Result _ Refusal). Leaves x s s left) (sym e) refl

@@ -1,8 +1,9 @@
 -- A run's transcript grows with each call.
-use Rattle.std.proofs.Common.{◌≡◌, ℕ, ◌+◌, ◌<◌, ◌≤◌, Bool, List, [], ◌∷◌, ◌++◌, map, reverse, length, get_or, take, sym, refl, ap, ◌∙◌, subst}
+use Rattle.std.proofs.Common.{◌≡◌, ℕ, ◌+◌, ◌<◌, ◌≤◌, Bool, List, [], ◌∷◌, ◌++◌, map, reverse, length, get_or, take, Result, sym, refl, ap, ◌∙◌, subst}
 use mathlib.Core.List.{reverse-cons}
 use Rattle.std.proofs.lemmas.List.{take_more, take_all, map_push}
 use Rattle.event.specs.declared.order.Order.{Order}
+use Rattle.event.specs.declared.refusal.Refusal.{Refusal}
 use Rattle.law.specs.Law.{AllAsk}
 use Rattle.law.specs.Openings.{Opening, world}
 use Rattle.law.specs.Rules.{Answered}
@@ -12,7 +13,7 @@ use Rattle.law.proofs.Filters.{one_filter}
 use Rattle.law.proofs.Lawful.{every_run_is_lawful}
 use Rattle.session.specs.declared.call.Call.{Call}
 use Rattle.session.specs.declared.call.Call.TheVariants as calls
-use Rattle.session.specs.declared.call.Answer.{Answer}
+use Rattle.session.specs.declared.call.Given.{Given}
 use Rattle.session.specs.declared.session.Session.{Session}
 use Rattle.session.specs.Runs.{law_call, says, Transcript, Ran}
 use Rattle.session.specs.Sessions.{Stands}
@@ -64,8 +65,8 @@ module _ {K : Type 0} (wants : List K → Bool) where
   ask_part (Raised t ∷ l) h a = ask_part l h a
   ask_part (Besides b ∷ l) h a = ask_part l h a
 
-  module _ (calls : List (Call K)) (i : ℕ) (said : List Answer) (h : List (Exchange (Opening K) K)) (told : Transcript wants (take i calls) said h) where
-    pub told_more : (c : Call K) (a : Answer) (x : Exchange (Opening K) K) (later : List Answer) → i < length calls → c ≡ get_or calls i c → later ≡ said ++ (a ∷ []) → call_of x ≡ law_call wants c → answer_of x ≡ says a → Transcript wants (take (i + 1) calls) later (x ∷ h)
+  module _ (calls : List (Call K)) (i : ℕ) (said : List (Result Given Refusal)) (h : List (Exchange (Opening K) K)) (told : Transcript wants (take i calls) said h) where
+    pub told_more : (c : Call K) (a : Result Given Refusal) (x : Exchange (Opening K) K) (later : List (Result Given Refusal)) → i < length calls → c ≡ get_or calls i c → later ≡ said ++ (a ∷ []) → call_of x ≡ law_call wants c → answer_of x ≡ says a → Transcript wants (take (i + 1) calls) later (x ∷ h)
     told_more c a x later lt is pushed e e' =
         let front : take (i + 1) calls ≡ take i calls ++ (c ∷ []) = take_more calls i c lt ∙ ap (λ (d : Call K). take i calls ++ (d ∷ [])) (sym is) in
         record {

@@ -1,12 +1,12 @@
 -- How a session that stands for a transcript goes on.
-use Rattle.std.proofs.Common.{◌≡◌, ℕ, ◌<◌, ◌≤◌, Bool, leb, List, [], ◌∷◌, ◌++◌, length, take, drop, Some, None, Option, sym, refl, ap, ◌∙◌, subst, arith}
+use Rattle.std.proofs.Common.{◌≡◌, ℕ, ◌<◌, ◌≤◌, Bool, leb, List, [], ◌∷◌, ◌++◌, length, take, drop, IsErrAnd, Some, None, Err, Option, Result, sym, refl, ap, ◌∙◌, subst, arith}
 use Rattle.std.proofs.lemmas.Bool.{le-leb, lt-leb}
 use Rattle.std.proofs.lemmas.List.{length-append, take-append-le, take_at}
 use Rattle.event.specs.declared.order.Order.{Order}
 use Rattle.event.specs.declared.refusal.Refusal.{Refusal}
 use Rattle.event.specs.declared.refusal.Refusal.TheVariants.{Threshold, Room}
 use Rattle.bundle.specs.Tapes.{tapes}
-use Rattle.matching.specs.Checks.{unless, first_wrong}
+use Rattle.matching.specs.Checks.{or_refused, unless, first_wrong}
 use Rattle.matching.specs.Picks.{picked}
 use Rattle.matching.specs.Support.{support}
 use Rattle.trail.specs.Sound.{tapes_of}
@@ -18,7 +18,7 @@ use Rattle.law.specs.Openings as law
 use Rattle.law.specs.Openings.{world}
 use Rattle.law.specs.Rules.{World, Rule, Answered, Held, closed, stage_refusal, may_raise, refused, standing, longest_of, support_of, events_of}
 use Rattle.law.specs.States.{State, state_of, after}
-use Rattle.law.specs.Transcripts.{Call, Next, Raise, refusing, Exchange, Besides, Refused, call_of, answer_of, stage, opening}
+use Rattle.law.specs.Transcripts.{Call, Next, Raise, Answer, refusing, Exchange, Besides, Refused, call_of, answer_of, stage, opening}
 use Rattle.law.proofs.States.{states_follow}
 use Rattle.search.specs.Walks as walks
 use Rattle.search.specs.Walks.{at, lexicon_of, Sound, SameRows, Unmoved}
@@ -26,7 +26,7 @@ use Rattle.search.specs.declared.walk.Walk.{Walk}
 use Rattle.session.specs.declared.session.Session.{Session}
 use Rattle.session.specs.Sessions.{Over, Under, Remembers, Stands, Follows, Extends}
 use Rattle.session.specs.Calls.{next_refusal, raise_refusal}
-use Rattle.session.proofs.Refusing.{some_none, first_passes, last_decides}
+use Rattle.session.proofs.Refusing.{exits, refused_by, some_none, first_passes, last_decides}
 
 -- what holds of the opening that there is
 pub held : {A : Type 0} (x : Option A) (P : A → Type 0) (a : A) → x ≡ Some a → P a → Held x P
@@ -121,6 +121,16 @@ module _ {K : Type 0} (order : K → K → Order) where
       Extends order c (refusing f) s s
   refuses s c f e h st = follows s s h st (Besides (Refused c f)) (e h st) st.remembers st.sound
 
+  -- so it is where a `?` ends the call
+  pub exits_refused :
+      {X : Type 0} (says : Result X Refusal → Answer) (s : Session K) (c : Call (law.Opening K) K) (f : Refusal) (r : Result X Refusal) →
+      says (Err f) ≡ refusing f →
+      IsErrAnd r (λ y. y ≡ f) →
+      ((h : List (Exchange (law.Opening K) K)) → Stands order s h → refused W h c ≡ Some f) →
+      Extends order c (says r) s s
+  exits_refused says s c f r is out e =
+      subst (λ (a : Answer). Extends order c a s s) (sym (ap says (exits r f out) ∙ is)) (refuses s c f e)
+
   module _ (s : Session K) (h : List (Exchange (law.Opening K) K)) (st : Stands order s h) where
     pub by_stage : (ask : Ask) → stage_refusal (stage h) ask ≡ stage_refusal s.stage ask
     by_stage ask = ap (λ (g : Stage). stage_refusal g ask) (sym st.remembers.stage)
@@ -132,6 +142,19 @@ module _ {K : Type 0} (order : K → K → Order) where
 
     pub open_over : closed s.stage ≡ None → (x : law.Opening K) × (opening h ≡ Some x) × Over s.walk x
     open_over e = under_open s.walk s.stage (opening h) e st.remembers.under
+
+  -- and so it is where the stage refuses the call
+  pub unheard :
+      {X : Type 0} (says : Result X Refusal → Answer) (s : Session K) (c : Call (law.Opening K) K) (ask : Ask) (f : Refusal) (heard : Result (Unit {0}) Refusal) (r : Result X Refusal) →
+      ((h : List (Exchange (law.Opening K) K)) → refused W h c ≡ stage_refusal (stage h) ask) →
+      says (Err f) ≡ refusing f →
+      heard ≡ or_refused (stage_refusal s.stage ask) tt →
+      heard ≡ Err f →
+      IsErrAnd r (λ y. y ≡ f) →
+      Extends order c (says r) s s
+  unheard says s c ask f heard r decides is answered was out =
+      exits_refused says s c f r is out
+      (λ h st. decides h ∙ by_stage s h st ask ∙ refused_by (stage_refusal s.stage ask) tt heard answered f was)
 
   room_by : (walk : Walk K) (o : Option (law.Opening K)) (m : ℕ) → (x : law.Opening K) × (o ≡ Some x) × Over walk x → first_wrong (unless (leb (longest_of W o) m) Room ∷ []) ≡ first_wrong (unless (leb walk.longest m) Room ∷ [])
   room_by walk o m u =

@@ -1,5 +1,5 @@
 -- A next is answered alike with a row of another length, if it is refused alike.
-use Rattle.std.proofs.Common.{◌≡◌, ℕ, ◌-◌, ◌<◌, ◌≤◌, min, Bool, true, leb, ◌⊎◌, List, [], ◌∷◌, length, take, sym, refl, ap, ◌∙◌, subst, inl, inr, arith}
+use Rattle.std.proofs.Common.{◌≡◌, ℕ, ◌<◌, ◌≤◌, min, Bool, true, leb, ◌⊎◌, List, [], ◌∷◌, length, take, replicate, sym, refl, ap, ◌∙◌, subst, inl, inr, arith}
 use Rattle.std.proofs.lemmas.List.{length-take-le}
 use Rattle.std.proofs.lemmas.Bool.{le-leb, lt-leb, cases_lt}
 use Rattle.event.specs.declared.order.Order.{Order}
@@ -70,6 +70,16 @@ module _ {O K : Type 0} where
     other (Besides (Counted a s)) e r = absurd (never (Probe a) e (λ x. x))
     other (Besides (Told t k)) e r = absurd (never Tell e (λ x. x))
 
+-- a row of 16 places, and the part of it that is handed over
+abbrev pub zeros : List ℕ
+zeros = replicate 16 0
+
+abbrev pub part : ℕ → List ℕ
+part k = take k zeros
+
+part_length : (k m : ℕ) → k ≡ min m 16 → length (part k) ≡ min m 16
+part_length k m e = length-take-le k zeros (omega (arith, e)) ∙ omega (arith, e)
+
 module _ {K : Type 0} (order : K → K → Order) (s t : Session K) where
   -- a row that is longer than the longest length can be gets the same answer as one that is just so long
   same_leb : (l m n : ℕ) → l ≤ 16 → n ≡ min m 16 → leb l m ≡ leb l n
@@ -79,7 +89,7 @@ module _ {K : Type 0} (order : K → K → Order) (s t : Session K) where
       by (inl lt) = lt-leb l m lt ∙ sym (lt-leb l n (omega (arith, e)))
       by (inr le) = le-leb l m le ∙ sym (le-leb l n (omega (arith, e)))
 
-  pub wider : (w : List K → Bool) (m n : ℕ) (a : Answer) → n ≡ min m 16 → Extends order (Next w n) a s t → Extends order (Next w m) a s t
+  wider : (w : List K → Bool) (m n : ℕ) (a : Answer) → n ≡ min m 16 → Extends order (Next w n) a s t → Extends order (Next w m) a s t
   wider w m n a e ext h st =
       let f = ext h st in
       let same : next_refusal s m ≡ next_refusal s n =
@@ -97,12 +107,6 @@ module _ {K : Type 0} (order : K → K → Order) (s t : Session K) where
             };
       }
 
--- a row of 16 places, and the part of it that is handed over
-abbrev pub zeros : List ℕ
-zeros = 0 ∷ 0 ∷ 0 ∷ 0 ∷ 0 ∷ 0 ∷ 0 ∷ 0 ∷ 0 ∷ 0 ∷ 0 ∷ 0 ∷ 0 ∷ 0 ∷ 0 ∷ 0 ∷ []
-
-abbrev pub part : ℕ → List ℕ
-part k = take (k - 0) zeros
-
-pub part_length : (k m : ℕ) → k ≡ min m 16 → length (part k) ≡ min m 16
-part_length k m e = length-take-le (k - 0) zeros (omega (arith, e)) ∙ omega (arith, e)
+  -- so does the part of a row of 16
+  pub wider_part : (w : List K → Bool) (m k : ℕ) (a : Answer) → k ≡ min m 16 → Extends order (Next w (length (part k))) a s t → Extends order (Next w m) a s t
+  wider_part w m k a e = wider w m (length (part k)) a (part_length k m e)

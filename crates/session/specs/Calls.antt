@@ -8,8 +8,7 @@ use Rattle.law.specs.declared.stage.Stage.TheVariants as stages
 use Rattle.law.specs.declared.stage.Ask.TheVariants as asks
 use Rattle.law.specs.Rules.{stage_refusal, may_raise, most_counted}
 use Rattle.law.specs.Transcripts.{Answer, refusing, accepted, pattern, end, counted, told}
-use Rattle.search.specs.Walks.{at, support_of, wants_of, SameRows, Unmoved, limits_of}
-use Rattle.search.specs.Turns.{Finds}
+use Rattle.search.specs.Walks.{at, SameRows, Unmoved, FindsOver}
 use Rattle.session.specs.declared.opening.Opening.{Opening}
 use Rattle.session.specs.declared.session.Session.{Session}
 
@@ -105,7 +104,7 @@ support_in None = None
 abbrev pub NextMeans : {K : Type 0} → (K → K → Order) → (List K → Bool) → Session K → Session K → Option (ℕ × ℕ) → Type 0
 NextMeans order wants before after found =
     (before.stage ≢ stages.Ended) →
-    Finds (limits_of before.walk before.threshold) (support_of order before.walk) (wants_of wants before.walk) (at before.walk) before.skipped (at after.walk) (support_in found)
+    FindsOver order wants before.threshold before.walk after.walk before.skipped (support_in found)
 
 -- each answer, in the words of the law: of a next, with the row afterwards
 abbrev pub says_done : {X : Type 0} → Result X Refusal → Answer

@@ -1,6 +1,7 @@
 -- Runs: some calls with their answers, as a transcript, and what it keeps.
-use Rattle.std.specs.Prelude.{◌≡◌, ℕ, Bool, List, ◌++◌, map, reverse, take, Some}
+use Rattle.std.specs.Prelude.{◌≡◌, ℕ, Bool, List, ◌++◌, map, reverse, take, Some, Ok, Err, Result}
 use Rattle.event.specs.declared.order.Order.{Order}
+use Rattle.event.specs.declared.refusal.Refusal.{Refusal}
 use Rattle.law.specs.Law.{Lawful}
 use Rattle.law.specs.Openings.{world}
 use Rattle.law.specs.Openings as openings
@@ -9,8 +10,8 @@ use Rattle.law.specs.Transcripts as law
 use Rattle.law.specs.Transcripts.{Exchange, call_of, answer_of, opening}
 use Rattle.session.specs.declared.call.Call.{Call}
 use Rattle.session.specs.declared.call.Call.TheVariants as calls
-use Rattle.session.specs.declared.call.Answer.{Answer}
-use Rattle.session.specs.declared.call.Answer.TheVariants as answers
+use Rattle.session.specs.declared.call.Given.{Given}
+use Rattle.session.specs.declared.call.Given.TheVariants as givens
 use Rattle.session.specs.declared.places.Places.{Places}
 use Rattle.session.specs.Sessions.{opening_of}
 
@@ -28,21 +29,21 @@ law_call wants (calls.Probe event) = law.Probe event.now
 law_call wants calls.Tell = law.Tell
 
 -- an answer
-abbrev pub says : Answer → law.Answer
-says (answers.Refused refusal) = law.refusing refusal
-says answers.Accepted = law.accepted
-says (answers.Pattern places support) = law.pattern (places_in places) support
-says answers.End = law.end
-says (answers.Support support) = law.counted support
-says (answers.Told threshold count) = law.told threshold count
+abbrev pub says : Result Given Refusal → law.Answer
+says (Ok givens.Accepted) = law.accepted
+says (Ok (givens.Pattern places support)) = law.pattern (places_in places) support
+says (Ok givens.End) = law.end
+says (Ok (givens.Support support)) = law.counted support
+says (Ok (givens.Told threshold count)) = law.told threshold count
+says (Err refusal) = law.refusing refusal
 
 -- h is the transcript of the calls and their answers, the newest first
-pub record Transcript {K : Type 0} (wants : List K → Bool) (calls : List (Call K)) (answers : List Answer) (h : List (Exchange (openings.Opening K) K)) : Type 0 where
+pub record Transcript {K : Type 0} (wants : List K → Bool) (calls : List (Call K)) (answers : List (Result Given Refusal)) (h : List (Exchange (openings.Opening K) K)) : Type 0 where
   pub asked : map call_of (reverse h) ≡ map (law_call wants) calls
   pub given : map answer_of (reverse h) ≡ map says answers
 
 -- the whole law of a run, over the order of the events and what the filter wants
-pub record Ran {K : Type 0} (order : K → K → Order) (wants : List K → Bool) (calls : List (Call K)) (answers : List Answer) : Type 0 where
+pub record Ran {K : Type 0} (order : K → K → Order) (wants : List K → Bool) (calls : List (Call K)) (answers : List (Result Given Refusal)) : Type 0 where
   -- the calls with these answers are a transcript
   pub transcript : List (Exchange (openings.Opening K) K)
   pub told : Transcript wants calls answers transcript

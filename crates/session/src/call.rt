@@ -1,6 +1,5 @@
 use crate::opening::Opening;
 use crate::places::Places;
-use event::refusal::Refusal;
 
 /// A call to a session: an opening, a next with a row of so many places, a skip, a raise to a threshold, a probe with an event, a tell.
 #[derive(Drop)]
@@ -13,10 +12,9 @@ pub enum Call<'a, K> {
     Tell,
 }
 
-/// An answer of a session: a refusal; accepted (an opening, a skip, a raise); a pattern and its support; END; a support; the threshold that stands and the count of patterns.
+/// What a session gives where it accepts a call: no more than that to an opening, a skip or a raise; a pattern and its support; END; a support; the threshold that stands and the count of patterns.
 #[derive(Clone, Copy)]
-pub enum Answer {
-    Refused(Refusal),
+pub enum Given {
     Accepted,
     Pattern(Places, u32),
     End,

@@ -11,27 +11,14 @@ ghost use Rattle.search.specs.Walks.{at, lexicon_of, Sound};
 ghost use Rattle.session.specs.Sessions.{opening_of, Stands, Extends};
 ghost use Rattle.session.specs.Calls.{refusal_in, Leaves, next_refusal, raise_refusal, OpenedBy, MarkedLatest, RaisedTo, Probed, AfterNext, NextMeans, row_after, says_done, says_next, says_support, says_told};
 
-use crate::opening::{MOST_THRESHOLD, Opening, check_opening};
+use crate::opening::{MOST_THRESHOLD, Opening, check_opening, is_within};
 use crate::session::Session;
 use event::kind::Kind;
 use event::refusal::Refusal;
 use filter::filter::Filter;
 use law::stage::{Ask, Stage};
-use search::search::next_pattern;
 use search::walk::Walk;
 use std::alloc::{AllocError, Global};
-
-// Writes places at a row's front.
-fn lay_places(places: &[u16], row: &mut [u16]) -> usize
-    requires { length places.now ≤ length row.old }
-    ensures count { result ≡ length places.now }
-    ensures laid { row.new ≡ places.now ++ drop (length places.now) row.old }
-{
-    for (k, place) in places.iter().enumerate() {
-        row[k] = *place;
-    }
-    places.len()
-}
 
 // What a call may do depends on the stage and the call together.
 fn hear(stage: Stage, call: Ask) -> Result<(), Refusal>
@@ -50,7 +37,7 @@ fn hear(stage: Stage, call: Ask) -> Result<(), Refusal>
 fn may_raise(from: u32, to: u32) -> bool
     ensures { result ≡ may_raise from to }
 {
-    1 <= to && to <= MOST_THRESHOLD && from <= to
+    is_within(to, MOST_THRESHOLD) && from <= to
 }
 
 impl<'a, K: Kind> Session<'a, K> {
@@ -108,16 +95,16 @@ impl<'a, K: Kind> Session<'a, K> {
         if let Stage::Ended = self.stage {
             return Ok(None);
         }
-        let Some(support) = next_pattern(&mut self.walk, filter, self.threshold, self.skipped)
-        else {
+        let Some(support) = self.walk.next_pattern(filter, self.threshold, self.skipped) else {
             self.stage = Stage::Ended;
             return Ok(None);
         };
         self.stage = Stage::Listing;
         self.skipped = false;
         self.count = self.count.saturating_add(1);
-        let length = lay_places(self.walk.places(), row);
-        Ok(Some((length, support)))
+        let places = self.walk.places();
+        row[..places.len()].copy_from_slice(places);
+        Ok(Some((places.len(), support)))
     }
 
     /// Marks the latest pattern as skipped: none of its extensions will be handed out.
@@ -157,10 +144,9 @@ impl<'a, K: Kind> Session<'a, K> {
     }
 
     /// The threshold that stands, and how many patterns were handed out since opening, counted up to 4,294,967,295.
-    pub fn tell(&mut self) -> Result<(u32, u32), Refusal>
-        ensures answer { result ≡ or_refused (stage_refusal self.old.stage asks.Tell) (self.old.threshold, self.old.count) }
-        ensures after { self.new ≡ self.old }
-        ensures extends { Extends K.Kind.order law.Tell (says_told result) self.old self.new }
+    pub fn tell(&self) -> Result<(u32, u32), Refusal>
+        ensures answer { result ≡ or_refused (stage_refusal self.now.stage asks.Tell) (self.now.threshold, self.now.count) }
+        ensures extends { Extends K.Kind.order law.Tell (says_told result) self.now self.now }
     {
         hear(self.stage, Ask::Tell)?;
         Ok((self.threshold, self.count))

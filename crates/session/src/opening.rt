@@ -25,7 +25,7 @@ pub struct Opening<'a, K> {
 pub(crate) fn is_within(number: u32, most: u32) -> bool
     ensures { result ≡ (nat_le 1 number && nat_le number most) }
 {
-    1 <= number && number <= most
+    (1..=most).contains(&number)
 }
 
 // Checks an opening: THRESHOLD and LENGTH if these are outside their ranges, then the rows.

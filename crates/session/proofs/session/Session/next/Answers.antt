@@ -7,90 +7,59 @@ use Rattle.law.specs.Order.{IsFirst}
 use Rattle.law.specs.Rules.{closed, support_of, Eligible}
 use Rattle.law.specs.Transcripts as law
 use Rattle.matching.specs.Checks.{unless}
-use Rattle.session.specs.Calls.{refusal_in, row_after, says_next}
-use Rattle.session.specs.Sessions.{Extends, Follows}
+use Rattle.session.specs.Calls.{says_next}
+use Rattle.session.specs.Sessions.{Follows}
 use Rattle.session.specs.declared.session.Session.{Session}
 use Rattle.search.specs.Walks as walks
 use Rattle.search.specs.Walks.{at, limits_of}
 use Rattle.session.proofs.Bridge.{gives, ends}
-use Rattle.session.proofs.Refusing.{exits, refused_by, passed_by, first_refuses, stays}
-use Rattle.session.proofs.Standing.{follows, refuses, held, next_refused, open_over, room_on, room_off, same_over, same_support, same_wants, front_of}
+use Rattle.session.proofs.Refusing.{refused_by, passed_by, first_refuses}
+use Rattle.session.proofs.Standing.{follows, refuses, exits_refused, held, next_refused, open_over, room_on, room_off, same_over, same_support, same_wants, front_of}
 use Rattle.session.proofs.session.Session.next.Goals as goal
 
-pub returns-in_err-hear : goal.returns-in_err-hear
-returns-in_err-hear g c =
+pub returns-in_err-hear-clause-extends : goal.returns-in_err-hear-clause-extends
+returns-in_err-hear-clause-extends g c =
     let s = c.args.self.now in
     let w = g.F.Filter.wants c.args.filter.now in
     let row = c.args.row.now in
     let m = length row in
     let f = c.in_err-hear.field-0.0 in
     let e = first_refuses (closed s.stage) (unless (leb s.walk.longest m) Room ∷ []) f (refused_by (closed s.stage) tt _ c.hear.ensures f c.in_err-hear.was) in
-    let out = exits c.from_residual.result f c.from_residual.ensures.1 in
-    record {
-      refused = ap refusal_in out ∙ sym e;
-      after = stays _ s _ f out;
-      row_after = sym (ap (λ (r : Result _ Refusal). row_after r (at s.walk) row) out);
-      means = λ sound. stays _ s _ f out;
-      extends =
-          subst (λ (r : Result _ Refusal). Extends g.K.Kind.order (law.Next w m) (says_next r row) s s) (sym out)
-          (refuses g.K.Kind.order s (law.Next w m) f (λ h st. next_refused g.K.Kind.order s h st w m ∙ e));
-    }
+    exits_refused g.K.Kind.order (λ (r : Result _ Refusal). says_next r row) s (law.Next w m) f c.from_residual.result refl c.from_residual.ensures.1 (λ h st. next_refused g.K.Kind.order s h st w m ∙ e)
 
-pub returns-then-row-longest : goal.returns-then-row-longest
-returns-then-row-longest g c =
+pub returns-then-row-longest-clause-extends : goal.returns-then-row-longest-clause-extends
+returns-then-row-longest-clause-extends g c =
     let s = c.args.self.now in
     let w = g.F.Filter.wants c.args.filter.now in
     let m = length c.args.row.now in
     let on = passed_by (closed s.stage) tt _ c.hear.ensures _ c.in_ok-hear.was in
     let e = room_off s m on (omega (arith, c.longest.ensures, c.if-row-longest.true)) in
-    record {
-      refused = sym e;
-      after = refl;
-      row_after = refl;
-      means = λ sound. refl;
-      extends = refuses g.K.Kind.order s (law.Next w m) Room (λ h st. next_refused g.K.Kind.order s h st w m ∙ e);
-    }
+    refuses g.K.Kind.order s (law.Next w m) Room (λ h st. next_refused g.K.Kind.order s h st w m ∙ e)
 
-pub returns-in-Ended : goal.returns-in-Ended
-returns-in-Ended g c =
+pub returns-in-Ended-clause-extends : goal.returns-in-Ended-clause-extends
+returns-in-Ended-clause-extends g c h st =
     let s = c.args.self.now in
     let w = g.F.Filter.wants c.args.filter.now in
     let m = length c.args.row.now in
     let on = passed_by (closed s.stage) tt _ c.hear.ensures _ c.in_ok-hear.was in
     let e = room_on s m on (omega (arith, c.longest.ensures, c.if-row-longest.false)) in
-    record {
-      refused = sym e;
-      after = (
-        record {
-          rows = record { events = refl; offsets = refl; lexicon = refl; longest = refl };
-          stage = c.in-Ended.is;
-          threshold = refl;
-          skipped = refl;
-          count = refl;
-        },
-        λ n. refl,
-      );
-      row_after = refl;
-      means = λ sound. (sound, λ n. absurd (n c.in-Ended.is));
-      extends = λ h st.
-          follows g.K.Kind.order s s h st (law.Ended w m)
-          (next_refused g.K.Kind.order s h st w m ∙ e, inl (sym st.remembers.stage ∙ c.in-Ended.is))
-          (record {
-            under = st.remembers.under;
-            stage = c.in-Ended.is;
-            latest = st.remembers.latest;
-            skipped = st.remembers.skipped;
-            threshold = st.remembers.threshold;
-            count = st.remembers.count;
-          })
-          st.sound;
-    }
+    follows g.K.Kind.order s s h st (law.Ended w m)
+    (next_refused g.K.Kind.order s h st w m ∙ e, inl (sym st.remembers.stage ∙ c.in-Ended.is))
+    (record {
+      under = st.remembers.under;
+      stage = c.in-Ended.is;
+      latest = st.remembers.latest;
+      skipped = st.remembers.skipped;
+      threshold = st.remembers.threshold;
+      count = st.remembers.count;
+    })
+    st.sound
 
 pub returns-in_default-next_pattern : goal.returns-in_default-next_pattern
 returns-in_default-next_pattern g c =
     let order = g.K.Kind.order in
     let s = c.args.self.now in
-    let walk = c.next_pattern.new.walk in
+    let walk = c.next_pattern.new.self in
     let w = g.F.Filter.wants c.args.filter.now in
     let m = length c.args.row.now in
     let on = passed_by (closed s.stage) tt _ c.hear.ensures _ c.in_ok-hear.was in
@@ -98,11 +67,12 @@ returns-in_default-next_pattern g c =
     let going = c.in_default.not-Ended in
     let same = c.in_default-next_pattern.ensures.same in
     let finds = c.in_default-next_pattern.ensures.finds in
+    let sounds = c.in_default-next_pattern.ensures.sound in
     record {
       refused = sym e;
       after = (record { rows = same; stage = refl; threshold = refl; skipped = refl; count = refl }, λ n. absurd (going n));
       row_after = refl;
-      means = λ sound. ((finds sound).0, λ n. (finds sound).1);
+      means = λ sound. (sounds sound, λ n. finds sound);
       extends = λ h st.
           let o = open_over order s h st on in
           follows order s _ h st (law.Ended w m) (
@@ -110,7 +80,7 @@ returns-in_default-next_pattern g c =
             inr (held (law.opening h) (λ (x : Opening _). (q : List ℕ) → Eligible (world order) x h w q → ⊥) o.0 o.1
                 (ends (world order) o.0 h w (limits_of s.walk s.threshold) (walks.support_of order s.walk) (walks.wants_of w s.walk) (at s.walk) s.skipped
                 o.2.longest (ap length o.2.lexicon) (same_support order s.walk o.0 o.2) (same_wants order w s.walk o.0 o.2)
-                st.remembers.threshold (st.remembers.latest going) (st.remembers.skipped going) (at walk) (finds st.sound).1)),
+                st.remembers.threshold (st.remembers.latest going) (st.remembers.skipped going) (at walk) (finds st.sound))),
           )
           (record {
             under = (o.0, o.1, same_over s.walk walk o.0 same o.2);
@@ -120,14 +90,14 @@ returns-in_default-next_pattern g c =
             threshold = st.remembers.threshold;
             count = st.remembers.count;
           })
-          (finds st.sound).0;
+          (sounds st.sound);
     }
 
 pub returns : goal.returns
 returns g c =
     let order = g.K.Kind.order in
     let s = c.args.self.now in
-    let walk = c.next_pattern.new.walk in
+    let walk = c.next_pattern.new.self in
     let w = g.F.Filter.wants c.args.filter.now in
     let row = c.args.row.now in
     let m = length row in
@@ -137,15 +107,17 @@ returns g c =
     let going = c.in_default.not-Ended in
     let same = c.in-Some.ensures.same in
     let finds = c.in-Some.ensures.finds in
-    let list = c.places.ensures.list in
-    let laid = c.lay_places-length.ensures.laid ∙ ap (λ (p : List ℕ). p ++ drop (length p) row) list in
-    let count = c.lay_places-length.ensures.count ∙ ap length list in
+    let sounds = c.in-Some.ensures.sound in
+    let list = c.places-places.ensures.list in
+    let laid : c.copy_from_slice.new.self ++ drop (length c.places-places.result.now) row ≡ at walk ++ drop (length (at walk)) row =
+    ap (λ (l : List ℕ). l ++ drop (length c.places-places.result.now) row) c.copy_from_slice.ensures.after ∙ ap (λ (p : List ℕ). p ++ drop (length p) row) list in
+    let count : length c.places-places.result.now ≡ length (at walk) = ap length list in
     let t : Session _ = record { walk = walk; stage = stages.Listing; threshold = s.threshold; skipped = false; count = c.saturating_add-self.result } in
     record {
       refused = sym e;
       after = (record { rows = same; stage = refl; threshold = refl; skipped = refl; count = omega (arith, c.saturating_add-self.ensures) }, count);
       row_after = laid;
-      means = λ sound. ((finds sound).0, λ n. (finds sound).1);
+      means = λ sound. (sounds sound, λ n. finds sound);
       extends = λ h st.
           let o = open_over order s h st on in
           subst (λ (p : List ℕ). Follows order (law.Next w m) (law.pattern p n) t h) (sym (front_of (at walk) row _ _ count laid))
@@ -155,7 +127,7 @@ returns g c =
             held (law.opening h) (λ (x : Opening _). IsFirst (Eligible (world order) x h w) (at walk) × (n ≡ support_of (world order) x (at walk))) o.0 o.1
                 (gives (world order) o.0 h w (limits_of s.walk s.threshold) (walks.support_of order s.walk) (walks.wants_of w s.walk) (at s.walk) s.skipped
                 o.2.longest (ap length o.2.lexicon) (same_support order s.walk o.0 o.2) (same_wants order w s.walk o.0 o.2)
-                st.remembers.threshold (st.remembers.latest going) (st.remembers.skipped going) (at walk) n (finds st.sound).1),
+                st.remembers.threshold (st.remembers.latest going) (st.remembers.skipped going) (at walk) n (finds st.sound)),
           )
           (record {
             under = (o.0, o.1, same_over s.walk walk o.0 same o.2);
@@ -165,5 +137,5 @@ returns g c =
             threshold = st.remembers.threshold;
             count = omega (arith, c.saturating_add-self.ensures, st.remembers.count);
           })
-          (finds st.sound).0);
+          (sounds st.sound));
     }

@@ -1,45 +1,27 @@
-use Rattle.std.proofs.Common.{Option, Result, sym, refl, ap, ◌∙◌, subst}
-use Rattle.event.specs.declared.refusal.Refusal.{Refusal}
+use Rattle.std.proofs.Common.{refl, ◌∙◌}
 use Rattle.law.specs.declared.stage.Ask.TheVariants as asks
 use Rattle.law.specs.Rules.{stage_refusal}
 use Rattle.law.specs.Transcripts as law
-use Rattle.matching.specs.Checks.{or_refused}
 use Rattle.session.specs.Calls.{says_done}
-use Rattle.session.specs.Sessions.{Extends}
-use Rattle.session.proofs.Refusing.{exits, refused_by, passed_by, stays}
-use Rattle.session.proofs.Standing.{follows, refuses, by_stage}
+use Rattle.session.proofs.Refusing.{passed_by}
+use Rattle.session.proofs.Standing.{follows, unheard, by_stage}
 use Rattle.session.proofs.session.Session.skip.Goals as goal
 
-pub returns-in_err-hear : goal.returns-in_err-hear
-returns-in_err-hear g c =
-    let s = c.args.self.now in
-    let f = c.in_err-hear.field-0.0 in
-    let e = refused_by (stage_refusal s.stage asks.Skip) tt _ c.hear.ensures f c.in_err-hear.was in
-    let out = exits c.from_residual.result f c.from_residual.ensures.1 in
-    record {
-      answer = out ∙ sym (ap (λ (o : Option Refusal). or_refused o tt) e);
-      after = stays _ s _ f out;
-      extends =
-          subst (λ (r : Result _ Refusal). Extends g.K.Kind.order law.Skip (says_done r) s s) (sym out)
-          (refuses g.K.Kind.order s law.Skip f (λ h st. by_stage g.K.Kind.order s h st asks.Skip ∙ e));
-    }
+pub returns-in_err-hear-clause-extends : goal.returns-in_err-hear-clause-extends
+returns-in_err-hear-clause-extends g c =
+    unheard g.K.Kind.order says_done c.args.self.now law.Skip asks.Skip c.in_err-hear.field-0.0 c.hear.result c.from_residual.result (λ h. refl) refl c.hear.ensures c.in_err-hear.was c.from_residual.ensures.1
 
-pub returns : goal.returns
-returns g c =
+pub returns-clause-extends : goal.returns-clause-extends
+returns-clause-extends g c h st =
     let s = c.args.self.now in
-    let e = passed_by (stage_refusal s.stage asks.Skip) tt _ c.hear.ensures _ c.in_ok-hear.was in
-    record {
-      answer = sym (ap (λ (o : Option Refusal). or_refused o tt) e);
-      after = record { walk = refl; stage = refl; threshold = refl; skipped = refl; count = refl };
-      extends = λ h st.
-          follows g.K.Kind.order s _ h st law.Marked (by_stage g.K.Kind.order s h st asks.Skip ∙ e)
-          (record {
-            under = st.remembers.under;
-            stage = st.remembers.stage;
-            latest = st.remembers.latest;
-            skipped = λ n. refl;
-            threshold = st.remembers.threshold;
-            count = st.remembers.count;
-          })
-          st.sound;
-    }
+    let on = passed_by (stage_refusal s.stage asks.Skip) tt _ c.hear.ensures _ c.in_ok-hear.was in
+    follows g.K.Kind.order s _ h st law.Marked (by_stage g.K.Kind.order s h st asks.Skip ∙ on)
+    (record {
+      under = st.remembers.under;
+      stage = st.remembers.stage;
+      latest = st.remembers.latest;
+      skipped = λ n. refl;
+      threshold = st.remembers.threshold;
+      count = st.remembers.count;
+    })
+    st.sound
