@@ -5,6 +5,7 @@ use event::kind::Kind;
 use event::order::Order;
 
 /// What stands at a leaf: a dot, which any one event meets, or a label's event.
+// not an `Option`: a text that is no leaf has none of these, and `Option<Option<K>>` would not say which is missing
 #[derive(Clone, Copy)]
 pub enum Label<K> {
     Any,
@@ -18,7 +19,7 @@ impl<K: Kind> Label<K> {
     {
         match self {
             Label::Any => true,
-            Label::Event(label) => matches!(label.compare(event), Order::Alike),
+            Label::Event(label) => label.compare(event) == Order::Alike,
         }
     }
 }
