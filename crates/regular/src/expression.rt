@@ -23,7 +23,7 @@ pub struct Expression<K> {
 }
 
 impl<K: Kind> Expression<K> {
-    ghost use Rattle.std.specs.Prelude.{◌≡◌, ◌<◌, ◌≤◌, true, ◌↔◌, length, IfOk};
+    ghost use Rattle.std.specs.Prelude.{◌<◌, ◌≤◌, ◌↔◌, IfOk};
     ghost use Rattle.regular.specs.Automata.{Numbered};
     ghost use Rattle.regular.specs.Expressions.{tree_of, labels_of, meets, expression_wants, expression_barren, HasRead};
     ghost use Rattle.regular.specs.Machine.{Steps};

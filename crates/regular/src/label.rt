@@ -5,7 +5,7 @@ use event::kind::Kind;
 use event::order::Order;
 
 /// What stands at a leaf: a dot, which any one event meets, or a label's event.
-// not an `Option`: a text that is no leaf has none of these, and `Option<Option<K>>` would not say which is missing
+// an enum and no `Option`: a text may be no leaf at all, and `Option<Option<K>>` would say less than `Option<Label<K>>`
 #[derive(Clone, Copy)]
 pub enum Label<K> {
     Any,

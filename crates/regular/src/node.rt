@@ -1,5 +1,5 @@
 /// A node of an expression: a leaf with its number in reading order, or a node over one or two others.
-// the others by their numbers in a table and not boxed, so that the functions over nodes go down by the number
+// the others go by their numbers in a table and no boxes, as the functions over nodes go down by the numbers
 #[derive(Clone, Copy)]
 pub enum Node {
     Leaf(usize),

@@ -1,4 +1,4 @@
-ghost use Rattle.std.specs.Prelude.{◌≡◌, ℕ, ◌<◌, false, ◌↔◌, ◌||◌, ◌==◌, IsTrue, MatchOption};
+ghost use Rattle.std.specs.Prelude.{◌≡◌, ℕ, ◌<◌, ◌↔◌, ◌||◌, ◌==◌, IsTrue, MatchOption};
 ghost use Rattle.std.specs.Iterator.{at_most};
 ghost use Rattle.regular.specs.Members.{member, Empty, TakesOut};
 
