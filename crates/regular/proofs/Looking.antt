@@ -1,8 +1,7 @@
 -- A loop that takes the places out of a set one by one, and gathers from those that fit.
-use Rattle.std.proofs.Common.{◌≡◌, ℕ, zero, suc, ◌<◌, Bool, true, false, not, ◌&&◌, ◌||◌, eqb, ◌⊎◌, vec_items, sym, refl, ap, ◌∙◌, subst, ap₂, inl, inr, ⊎_elim, arith}
-use mathlib.Core.Bool.{false≢true}
-use Rattle.std.proofs.lemmas.Bool.Decides.{same_from_decides, Decides-or, Decides-like}
-use Rattle.std.proofs.lemmas.Bool.{and_from, and_parts, and_left, and_right, eq-eqb, eqb-true, cases_Bool, not-true, not_from_false}
+use Rattle.std.proofs.Common.{◌≡◌, ℕ, zero, suc, ◌<◌, Bool, true, false, not, ◌&&◌, ◌||◌, eqb, ◌⊎◌, vec_items, sym, refl, ◌∙◌, subst, ap₂, inl, inr, ⊎_elim, arith}
+use Rattle.std.proofs.lemmas.Bool.Decides.{nat_tests, same_from_decides, Decides-or, Decides-like}
+use Rattle.std.proofs.lemmas.Bool.{false_from_ne_true, and_from, and_parts, and_right, eqb-true, cases_Bool}
 use Rattle.regular.specs.Automata.{any_below}
 use Rattle.regular.specs.Members.{member, behind, Empty, TakesOut}
 use Rattle.regular.specs.Machine.{Steps}
@@ -16,7 +15,7 @@ any_same f g zero h = refl
 any_same f g (suc n) h = ap₂ (λ a b. a || b) (h n (omega arith)) (any_same f g n (λ k l. h k (omega arith)))
 
 none_below : (f : ℕ → Bool) (n : ℕ) → ((k : ℕ) × (k < n) × (f k ≡ true) → ⊥) → any_below f n ≡ false
-none_below f n none = ⊎_elim (λ e. absurd (none ((some_below f n).0 e))) (λ e. e) (cases_Bool (any_below f n))
+none_below f n none = false_from_ne_true _ (λ e. none ((some_below f n).0 e))
 
 -- of the places S, those that are not left have been looked at: R of some of them
 abbrev seen : (S : ℕ → Bool) → Places → (R : ℕ → Bool) → ℕ → Bool
@@ -25,17 +24,11 @@ seen S left R n = any_below (λ p. (S p && not (member left p)) && R p) n
 module _ (S R : ℕ → Bool) (n : ℕ) where
   -- none has been looked at, while all are left
   seen_none : (left : Places) → ((p : ℕ) → S p ≡ true → member left p ≡ true) → seen S left R n ≡ false
-  seen_none left all =
-      none_below _ n
-      (λ y. let a = and_parts _ _ y.2 in let b = and_parts _ _ a.0 in false≢true (sym (not-true _ b.1) ∙ all y.0 b.0))
+  seen_none left all = none_below _ n (λ y. let h = y.2 in let a = all y.0 in grind (arith, nat_tests))
 
   -- all have been looked at, where none is left
   seen_all : (left : Places) → Empty left → seen S left R n ≡ any_below (λ p. S p && R p) n
-  seen_all left none = any_same _ _ n (λ k l. ap (λ b. b && R k) (bare (S k) (member left k) (none k)))
-    where
-      bare : (s l : Bool) → l ≡ false → (s && not l) ≡ s
-      bare true l h = ap not h
-      bare false l h = refl
+  seen_all left none = any_same _ _ n (λ k l. let e = none k in grind (arith, nat_tests))
 
   -- one more is looked at
   seen_more : (left left' : Places) (k : ℕ) → k < n → TakesOut left left' k → seen S left' R n ≡ (seen S left R n || (S k && R k))
@@ -46,39 +39,22 @@ module _ (S R : ℕ → Bool) (n : ℕ) where
       Found l = (p : ℕ) × (p < n) × (((S p && not (member l p)) && R p) ≡ true)
 
       back : Found left ⊎ ((S k && R k) ≡ true) → Found left'
-      back (inl y) =
-          let a = and_parts _ _ y.2 in
-          let b = and_parts _ _ a.0 in
-          (y.0, y.1, and_from _ _ (and_from _ _ b.0 (not_from_false _ (taken.rest y.0 ∙ and_left _ _ (not-true _ b.1)))) a.1)
-      back (inr h) =
-          let a = and_parts _ _ h in
-          (k, lt, and_from _ _ (and_from _ _ a.0 (not_from_false _ (taken.rest k ∙ ap₂ (λ x y. x && not y) taken.has (eq-eqb k k refl)))) a.1)
-
-      kept : (l q : Bool) → q ≡ false → (l && not q) ≡ l
-      kept true q h = ap not h
-      kept false q h = refl
+      back (inl y) = (y.0, y.1, let h = y.2 in let t = taken.rest y.0 in grind (arith, nat_tests))
+      back (inr h) = (k, lt, let t = taken.rest k in grind (arith, nat_tests))
 
       there : Found left' → Found left ⊎ ((S k && R k) ≡ true)
       there y =
-          let a = and_parts _ _ y.2 in
-          let b = and_parts _ _ a.0 in
           ⊎_elim
-          (λ e. inr (subst (λ (z : ℕ). (S z && R z) ≡ true) (sym (eqb-true k y.0 e)) (and_from _ _ b.0 a.1)))
-          (λ e. inl (y.0, y.1, and_from _ _ (and_from _ _ b.0 (ap not (sym (kept (member left y.0) (eqb k y.0) e) ∙ sym (taken.rest y.0)) ∙ b.1)) a.1))
+          (λ e. inr (subst (λ (z : ℕ). (S z && R z) ≡ true) (sym (eqb-true k y.0 e)) (let h = y.2 in grind (arith, nat_tests))))
+          (λ e. inl (y.0, y.1, let h = y.2 in let t = taken.rest y.0 in grind (arith, nat_tests)))
           (cases_Bool (eqb k y.0))
 
   -- the same where the place is met, and where it is not
   seen_met : (left left' : Places) (k : ℕ) (old new : Bool) → k < n → TakesOut left left' k → S k ≡ true → old ≡ seen S left R n → new ≡ (old || R k) → new ≡ seen S left' R n
-  seen_met left left' k old new lt taken met o e =
-      e ∙ ap₂ (λ a b. a || (b && R k)) o (sym met) ∙ sym (seen_more left left' k lt taken)
+  seen_met left left' k old new lt taken met o e = let m = seen_more left left' k lt taken in grind (arith, nat_tests)
 
   seen_unmet : (left left' : Places) (k : ℕ) (old : Bool) → k < n → TakesOut left left' k → S k ≡ false → old ≡ seen S left R n → old ≡ seen S left' R n
-  seen_unmet left left' k old lt taken unmet o =
-      o ∙ sym (bare (seen S left R n)) ∙ ap (λ b. seen S left R n || (b && R k)) (sym unmet) ∙ sym (seen_more left left' k lt taken)
-    where
-      bare : (b : Bool) → (b || false) ≡ b
-      bare true = refl
-      bare false = refl
+  seen_unmet left left' k old lt taken unmet o = let m = seen_more left left' k lt taken in grind (arith, nat_tests)
 
 -- Where the loop of one step stands: the places left are of those ahead of the reading from, and the rest have been looked at. Of those that fit, the sets behind are gathered, and whether one is a last place.
 pub record Looked (a : Automaton) (n : ℕ) (fit : ℕ → Bool) (from : Reading) (left ahead : Places) (ended : Bool) : Type 0 where

@@ -25,9 +25,9 @@ fits_is m [] d p e h = absurd (omega arith)
 fits_is m (a ∷ l) d zero e h = refl
 fits_is m (a ∷ l) d (suc p) e h = fits_is m l d p e (omega arith)
 
--- whether an event meets the leaf with a number, by the label that the leaf has
-pub meets_is : {K : Type 0} (order : K → K → Order) (x : Expression K) (label : Label K) (p : ℕ) (e : K) (met : Bool) → p < length (labels_of x) → label ≡ get_or (labels_of x) p label → met ≡ suits order label e → met ≡ meets order x p e
-meets_is order x label p e met h is tells = tells ∙ ap (λ l. suits order l e) is ∙ fits_is (suits order) (labels_of x) label p e h
+-- what an event's meeting a label says of the leaf that has the label
+pub meets_is : {K : Type 0} (order : K → K → Order) (x : Expression K) (label : Label K) (p : ℕ) (e : K) (met : Bool) → p < length (labels_of x) → label ≡ get_or (labels_of x) p label → met ≡ suits order label e → meets order x p e ≡ met
+meets_is order x label p e met h is tells = sym (tells ∙ ap (λ l. suits order l e) is ∙ fits_is (suits order) (labels_of x) label p e h)
 
 module _ {K : Type 0} (m : ℕ → K → Bool) (t : Regex ℕ) (n : ℕ) (nt : Numbered t 0 n) where
   ahead_within : (x : State) (i : ℕ) → ahead_of m t n x i ≡ true → i < n

@@ -1,12 +1,12 @@
 -- Sets of places by the bits of numbers.
-use Rattle.std.proofs.Common.{◌≡◌, ℕ, ◌*◌, ◌%◌, ◌^◌, ◌<◌, true, not, ◌&&◌, ◌||◌, eqb, bit_and, bit_or, bit_xor, sym, ap, ◌∙◌, subst, ⊎_elim, one-mul, arith}
+use Rattle.std.proofs.Common.{◌≡◌, ℕ, ◌*◌, ◌%◌, ◌^◌, ◌<◌, true, not, ◌&&◌, eqb, bit_and, bit_or, bit_xor, sym, ap, ◌∙◌, subst, ⊎_elim, one-mul, arith}
 use Rattle.std.specs.Int.{bit_at, w64, trailing_zeros}
 use lib.Bits.{xor_add_and}
 use Rattle.std.proofs.lemmas.Nat.{pow_pos, one_shl}
 use Rattle.std.proofs.lemmas.Nat.Bits.{bit_at-zero, bit_at_or, bit_at_xor, bit_at-pow_same, bit_at-pow_other, and_pow, bit_at-trailing_zeros, bit_at-lt, same_from_bits}
 use Rattle.std.proofs.lemmas.Bool.{eqb-true, eq-eqb, cases_eq}
 use Rattle.std.proofs.lemmas.Bool.Decides.{nat_tests}
-use Rattle.regular.specs.Members.{member, Empty, TakesOut}
+use Rattle.regular.specs.Members.{member, Empty, IsUnion, TakesOut}
 use Rattle.regular.specs.declared.set.Places.{Places}
 
 abbrev pub of_bits : ℕ → Places
@@ -21,7 +21,7 @@ unfolding member
 none_only s h =
     same_from_bits s.bits 0 (λ i. let z = bit_at-zero i in let b = bit_at-lt s.bits i in let e = h i in grind (arith, nat_tests))
 
-pub member_or : (a b : Places) (i : ℕ) → member (of_bits (bit_or a.bits b.bits)) i ≡ (member a i || member b i)
+pub member_or : (a b : Places) → IsUnion a b (of_bits (bit_or a.bits b.bits))
 unfolding member
 member_or a b i = let x = bit_at-lt a.bits i in let y = bit_at-lt b.bits i in let e = bit_at_or a.bits b.bits i in grind (arith, nat_tests)
 

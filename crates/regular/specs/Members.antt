@@ -1,5 +1,5 @@
 -- Sets of places.
-use Rattle.std.specs.Prelude.{◌≡◌, ℕ, ◌<◌, Bool, true, false, not, ◌&&◌, ◌==◌, List, slice_index_or}
+use Rattle.std.specs.Prelude.{◌≡◌, ℕ, ◌<◌, Bool, true, false, not, ◌&&◌, ◌||◌, ◌==◌, List, slice_index_or}
 use Rattle.std.specs.Int.{bit_at}
 use Rattle.regular.specs.declared.set.Places.{Places}
 
@@ -14,6 +14,10 @@ Below s n = (p : ℕ) → member s p ≡ true → p < n
 -- no place is in the set
 abbrev pub Empty : Places → Type 0
 Empty s = (p : ℕ) → member s p ≡ false
+
+-- r has the places of a and those of b
+abbrev pub IsUnion : Places → Places → Places → Type 0
+IsUnion a b r = (i : ℕ) → member r i ≡ (member a i || member b i)
 
 -- p is the lowest place of s, and t has the others
 pub record TakesOut (s t : Places) (p : ℕ) : Type 0 where

@@ -1,6 +1,6 @@
-ghost use Rattle.std.specs.Prelude.{◌≡◌, ℕ, ◌<◌, ◌↔◌, ◌||◌, ◌==◌, IsTrue, MatchOption};
+ghost use Rattle.std.specs.Prelude.{◌≡◌, ℕ, ◌<◌, ◌↔◌, ◌==◌, IsTrue, MatchOption};
 ghost use Rattle.std.specs.Iterator.{at_most};
-ghost use Rattle.regular.specs.Members.{member, Empty, TakesOut};
+ghost use Rattle.regular.specs.Members.{member, Empty, IsUnion, TakesOut};
 
 use std::ops::{BitOr, BitOrAssign};
 
@@ -43,7 +43,7 @@ impl Places {
 impl BitOr for Places {
     type Output = Places;
 
-    ghost bitor_gives = { λ a b r. (i : ℕ) → member r i ≡ (member a i || member b i) };
+    ghost bitor_gives = { IsUnion };
 
     fn bitor(self, other: Places) -> Places {
         Places {
@@ -53,7 +53,7 @@ impl BitOr for Places {
 }
 
 impl BitOrAssign for Places {
-    ghost bitor_assign_gives = { λ a b r. (i : ℕ) → member r i ≡ (member a i || member b i) };
+    ghost bitor_assign_gives = { IsUnion };
 
     fn bitor_assign(&mut self, other: Places) {
         self.bits |= other.bits;

@@ -60,7 +60,7 @@ impl Table {
         }
     }
 
-    // The places that a list of the language of the node n can end with.
+    // The places that a list of the language of the node n can end with: a function of its own, and not `first` with a flag for the side.
     pub(crate) fn last(&self, n: usize) -> Places
         requires { n < length self.now.nodes.items }
         ensures { (p : ℕ) → member result p ≡ is_last (tree self.now.nodes.items n) p }
