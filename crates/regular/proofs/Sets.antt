@@ -1,140 +1,68 @@
--- Sets of places by the digits of numbers.
-use Rattle.std.proofs.Common.{◌≡◌, ℕ, zero, suc, ◌+◌, ◌-◌, ◌*◌, ◌/◌, ◌%◌, ◌^◌, ◌<◌, Bool, true, false, not, ◌&&◌, ◌||◌, eqb, sym, refl, ap, ◌∙◌, subst, ⊎_elim, one-mul, zero-mul, arith}
-use mathlib.Core.Bool.{false≢true}
-use native.Mathlib.Nat.{zero-div, div_self, div-eq_of_lt}
-use lib.Bits.{bit_and, bit_or, bit_xor, or_shr, or_mod, xor_shr, xor_mod, xor_add_and, and_high, shifted_even}
-use lib.Count.{count_trailing_zeros, under}
-use Rattle.std.proofs.lemmas.Nat.{pow_pos, pow-add, pow_below, shl-shr, shr-shr, one_shl, mod_below}
-use Rattle.std.proofs.lemmas.Bool.{eq-eqb, ne_eqb, eqb-true, eqb-false, not-true, cases_order}
-use Rattle.regular.specs.Members.{member}
+-- Sets of places by the bits of numbers.
+use Rattle.std.proofs.Common.{◌≡◌, ℕ, ◌*◌, ◌%◌, ◌^◌, ◌<◌, true, not, ◌&&◌, eqb, bit_and, bit_or, bit_xor, sym, ap, ◌∙◌, subst, ⊎_elim, one-mul, arith}
+use Rattle.std.specs.Int.{bit_at, w64, trailing_zeros}
+use lib.Bits.{xor_add_and}
+use Rattle.std.proofs.lemmas.Nat.{pow_pos, one_shl}
+use Rattle.std.proofs.lemmas.Nat.Bits.{bit_at-zero, bit_at_or, bit_at_xor, bit_at-pow_same, bit_at-pow_other, and_pow, bit_at-trailing_zeros, bit_at-lt, same_from_bits}
+use Rattle.std.proofs.lemmas.Bool.{eqb-true, eq-eqb, cases_eq}
+use Rattle.std.proofs.lemmas.Bool.Decides.{nat_tests}
+use Rattle.regular.specs.Members.{member, Empty, IsUnion, TakesOut}
+use Rattle.regular.specs.declared.set.Places.{Places}
 
--- two bits
-or_small : (x y : ℕ) → x < 2 → y < 2 → eqb (bit_or x y) 1 ≡ (eqb x 1 || eqb y 1)
-or_small zero zero h k = refl
-or_small zero (suc zero) h k = refl
-or_small (suc zero) zero h k = refl
-or_small (suc zero) (suc zero) h k = refl
-or_small (suc (suc x)) y h k = absurd (omega arith)
-or_small zero (suc (suc y)) h k = absurd (omega arith)
-or_small (suc zero) (suc (suc y)) h k = absurd (omega arith)
+abbrev pub of_bits : ℕ → Places
+of_bits n = record { bits = n }
 
-pub member_or : (a b i : ℕ) → member (bit_or a b) i ≡ (member a i || member b i)
+pub member_none : Empty (of_bits 0)
 unfolding member
-member_or a b i =
-    ap (λ n. eqb (n % 2) 1) (or_shr a b i)
-    ∙ ap (λ n. eqb n 1) (or_mod (a / 2 ^ i) (b / 2 ^ i) 1)
-    ∙ or_small (a / 2 ^ i % 2) (b / 2 ^ i % 2) (mod_below (a / 2 ^ i) 2 (omega arith)) (mod_below (b / 2 ^ i) 2 (omega arith))
+member_none i = ap (λ n. eqb n 1) (bit_at-zero i)
 
-pub member_none : (i : ℕ) → member 0 i ≡ false
+pub none_only : (s : Places) → Empty s → s.bits ≡ 0
 unfolding member
-member_none i = ap (λ n. eqb (n % 2) 1) (zero-div (2 ^ i))
+none_only s h =
+    same_from_bits s.bits 0 (λ i. let z = bit_at-zero i in let b = bit_at-lt s.bits i in let e = h i in grind (arith, nat_tests))
 
--- a higher power of two is even there
-above : (i j d : ℕ) → i ≡ suc d + j → eqb (2 ^ i / 2 ^ j % 2) 1 ≡ false
-above i j d e =
-    ap (λ n. eqb (2 ^ n / 2 ^ j % 2) 1) e
-    ∙ ap (λ n. eqb (n / 2 ^ j % 2) 1) (pow-add 2 (suc d) j)
-    ∙ ap (λ n. eqb (n % 2) 1) (shl-shr (2 ^ suc d) j)
-    ∙ ap (λ n. eqb (n % 2) 1) (sym (one-mul (2 ^ suc d)))
-    ∙ ap (λ n. eqb n 1) (shifted_even 1 d)
-
--- one place alone
-pub member_power : (i j : ℕ) → member (2 ^ i) j ≡ eqb i j
+pub member_or : (a b : Places) → IsUnion a b (of_bits (bit_or a.bits b.bits))
 unfolding member
-member_power i j =
-    ⊎_elim (λ e. subst (λ k. eqb (2 ^ i / 2 ^ k % 2) 1 ≡ eqb i k) e (ap (λ n. eqb (n % 2) 1) (div_self (pow_pos i)) ∙ sym (eq-eqb i i refl)))
-    (λ o. ⊎_elim
-    (λ l. ap (λ n. eqb (n % 2) 1) (div-eq_of_lt (pow_below i j l)) ∙ sym (ne_eqb i j (λ e. omega arith)))
-    (λ l. above i j (i - suc j) (omega arith) ∙ sym (ne_eqb i j (λ e. omega arith)))
-    o)
-    (cases_order i j)
+member_or a b i = let x = bit_at-lt a.bits i in let y = bit_at-lt b.bits i in let e = bit_at_or a.bits b.bits i in grind (arith, nat_tests)
 
-pub member_only : (i : ℕ) → i < 64 → (j : ℕ) → member ((1 * 2 ^ i) % 2 ^ 64) j ≡ eqb i j
-member_only i h j = ap (λ n. member n j) (one_shl i 64 h) ∙ member_power i j
-
-times_small : (x p : ℕ) → x < 2 → 0 < p → not (eqb (x * p) 0) ≡ eqb x 1
-times_small zero p h k = ap (λ n. not (eqb n 0)) (zero-mul p)
-times_small (suc zero) p h k = ap (λ n. not (eqb n 0)) (one-mul p) ∙ ap not (ne_eqb p 0 (λ e. omega arith))
-times_small (suc (suc x)) p h k = absurd (omega arith)
-
-and_power : (s i : ℕ) → bit_and s (2 ^ i) ≡ (s / 2 ^ i % 2) * 2 ^ i
-and_power s i = let d : 2 ^ (1 + i) - 2 ^ i ≡ 2 ^ i = omega (arith, pow-add 2 1 i) in ap (bit_and s) (sym d) ∙ and_high s 1 i
-
-pub member_test : (s i : ℕ) → i < 64 → not (eqb (bit_and s ((1 * 2 ^ i) % 2 ^ 64)) 0) ≡ member s i
+member_pow : (p i : ℕ) → member (of_bits (2 ^ p)) i ≡ eqb p i
 unfolding member
-member_test s i h =
-    ap (λ n. not (eqb (bit_and s n) 0)) (one_shl i 64 h)
-    ∙ ap (λ n. not (eqb n 0)) (and_power s i)
-    ∙ times_small (s / 2 ^ i % 2) (2 ^ i) (mod_below (s / 2 ^ i) 2 (omega arith)) (pow_pos i)
+member_pow p i =
+    ⊎_elim
+    (λ e. let x = bit_at-pow_same p in subst (λ (z : ℕ). eqb (bit_at (2 ^ p) z) 1 ≡ eqb p z) (sym e) (grind (arith, nat_tests)))
+    (λ n. let x = bit_at-pow_other p i n in grind (arith, nat_tests))
+    (cases_eq i p)
 
--- two bits that are apart where one is set and the other is not
-xor_small : (x y : ℕ) → x < 2 → y < 2 → eqb (bit_xor x y) 1 ≡ ((eqb x 1 && not (eqb y 1)) || (not (eqb x 1) && eqb y 1))
-xor_small zero zero h k = refl
-xor_small zero (suc zero) h k = refl
-xor_small (suc zero) zero h k = refl
-xor_small (suc zero) (suc zero) h k = refl
-xor_small (suc (suc x)) y h k = absurd (omega arith)
-xor_small zero (suc (suc y)) h k = absurd (omega arith)
-xor_small (suc zero) (suc (suc y)) h k = absurd (omega arith)
-
-member_xor : (a b i : ℕ) → member (bit_xor a b) i ≡ ((member a i && not (member b i)) || (not (member a i) && member b i))
-unfolding member
-member_xor a b i =
-    ap (λ n. eqb (n % 2) 1) (xor_shr a b i)
-    ∙ ap (λ n. eqb n 1) (xor_mod (a / 2 ^ i) (b / 2 ^ i) 1)
-    ∙ xor_small (a / 2 ^ i % 2) (b / 2 ^ i % 2) (mod_below (a / 2 ^ i) 2 (omega arith)) (mod_below (b / 2 ^ i) 2 (omega arith))
-
-took_out : (x y : Bool) → (y ≡ true → x ≡ true) → ((x && not y) || (not x && y)) ≡ (x && not y)
-took_out true true h = refl
-took_out true false h = refl
-took_out false true h = absurd (false≢true (h refl))
-took_out false false h = refl
+-- the one place alone
+pub member_only : (p : ℕ) → p < 64 → (i : ℕ) → member (of_bits ((1 * 2 ^ p) % 2 ^ 64)) i ≡ eqb p i
+member_only p h i = ap (λ n. member (of_bits n) i) (one_shl p 64 h) ∙ member_pow p i
 
 -- a set without one of its places
-pub member_without : (s i : ℕ) → i < 64 → member s i ≡ true → (j : ℕ) → member (bit_xor s ((1 * 2 ^ i) % 2 ^ 64)) j ≡ (member s j && not (eqb i j))
-member_without s i h k j =
-    member_xor s ((1 * 2 ^ i) % 2 ^ 64) j
-    ∙ ap (λ b. (member s j && not b) || (not (member s j) && b)) (member_only i h j)
-    ∙ took_out (member s j) (eqb i j) (λ e. ap (member s) (sym (eqb-true i j e)) ∙ k)
-
-pub without_less : (s i : ℕ) → i < 64 → member s i ≡ true → bit_xor s ((1 * 2 ^ i) % 2 ^ 64) < s
+pub member_without : (s : Places) (p : ℕ) → p < 64 → member s p ≡ true → (i : ℕ) → member (of_bits (bit_xor s.bits ((1 * 2 ^ p) % 2 ^ 64))) i ≡ (member s i && not (eqb p i))
 unfolding member
-without_less s i h k =
-    let e : bit_and s (2 ^ i) ≡ 2 ^ i = and_power s i ∙ ap (λ n. n * 2 ^ i) (eqb-true (s / 2 ^ i % 2) 1 k) ∙ one-mul (2 ^ i) in
-    let f = xor_add_and s (2 ^ i) in
-    let p = pow_pos i in
-    let less : bit_xor s (2 ^ i) < s = omega arith in
-    subst (λ (n : ℕ). bit_xor s n < s) (sym (one_shl i 64 h)) less
+member_without s p h k i =
+    ap (λ n. member (of_bits (bit_xor s.bits n)) i) (one_shl p 64 h)
+    ∙ ⊎_elim
+    (λ e. subst (λ (z : ℕ). eqb (bit_at (bit_xor s.bits (2 ^ p)) z) 1 ≡ (eqb (bit_at s.bits z) 1 && not (eqb p z))) (sym e) (let x = bit_at-pow_same p in let y = bit_at_xor s.bits (2 ^ p) p in grind (arith, nat_tests)))
+    (λ n. let x = bit_at-pow_other p i n in let y = bit_at_xor s.bits (2 ^ p) i in let z = bit_at-lt s.bits i in grind (arith, nat_tests))
+    (cases_eq i p)
 
-pub some_yes : (s : ℕ) → not (eqb s 0) ≡ true → 0 < s
-some_yes s h = let n = eqb-false s 0 (not-true _ h) in omega arith
-
-pub some_no : (s i : ℕ) → member s i ≡ true → not (eqb s 0) ≡ true
-some_no s i h = ap not (ne_eqb s 0 (λ e. false≢true (sym (member_none i) ∙ ap (λ z. member z i) (sym e) ∙ h)))
-
--- the lowest digit that is set
-under_set : (d t n : ℕ) → n % 2 ≡ d → (d ≡ 0 → n / 2 / 2 ^ t % 2 ≡ 1) → n / 2 ^ under d t % 2 ≡ 1
-under_set zero t n e h = ap (λ k. n / 2 ^ k % 2) (sym (suc_is t)) ∙ ap (λ z. z % 2) (sym (shr-shr n 1 t)) ∙ h refl
-  where
-    suc_is : (k : ℕ) → 1 + k ≡ suc k
-    suc_is k = omega arith
-under_set (suc d) t n e h = omega (arith, mod_below n 2 (omega arith))
-
-trailing_set : (k n : ℕ) → 0 < n → n < 2 ^ k → n / 2 ^ count_trailing_zeros k n % 2 ≡ 1
-unfolding count_trailing_zeros
-trailing_set zero n p q = absurd (omega arith)
-trailing_set (suc k) n p q =
-    under_set (n % 2) (count_trailing_zeros k (n / 2)) n refl (λ e. trailing_set k (n / 2) (omega arith) (omega arith))
-
-pub member_lowest : (s : ℕ) → 0 < s → s < 2 ^ 64 → member s (count_trailing_zeros 64 s) ≡ true
+pub without_less : (s : Places) (p : ℕ) → p < 64 → member s p ≡ true → bit_xor s.bits ((1 * 2 ^ p) % 2 ^ 64) < s.bits
 unfolding member
-member_lowest s p q = eq-eqb (s / 2 ^ count_trailing_zeros 64 s % 2) 1 (trailing_set 64 s p q)
+without_less s p h k =
+    let e : bit_and s.bits (2 ^ p) ≡ 2 ^ p = and_pow s.bits p ∙ ap (λ n. n * 2 ^ p) (eqb-true (bit_at s.bits p) 1 k) ∙ one-mul (2 ^ p) in
+    let f = xor_add_and s.bits (2 ^ p) in
+    let z = pow_pos p in
+    let less : bit_xor s.bits (2 ^ p) < s.bits = omega arith in
+    subst (λ (n : ℕ). bit_xor s.bits n < s.bits) (sym (one_shl p 64 h)) less
 
-below_power : (n : ℕ) → n < 2 ^ n
-below_power zero = omega arith
-below_power (suc n) = let h = below_power n in let e : suc n ≡ 1 + n = omega arith in subst (λ (k : ℕ). suc n < 2 ^ k) (sym e) (omega (arith, pow-add 2 1 n))
+pub some_bit : (s : Places) → (Empty s → ⊥) → 0 < s.bits
+some_bit s h = ⊎_elim (λ e. absurd (h (subst (λ (n : ℕ). Empty (of_bits n)) (sym e) member_none))) (λ n. omega arith) (cases_eq s.bits 0)
 
--- a number that is not 0 has a place
-pub member_some : (s : ℕ) → 0 < s → (i : ℕ) × (member s i ≡ true)
+-- the lowest place
+pub takes_lowest : (s : Places) → (Empty s → ⊥) → s.bits < 2 ^ 64 → TakesOut s (of_bits (bit_xor s.bits ((1 * 2 ^ trailing_zeros w64 s.bits) % 2 ^ 64))) (trailing_zeros w64 s.bits)
 unfolding member
-member_some s p = (count_trailing_zeros s s, eq-eqb (s / 2 ^ count_trailing_zeros s s % 2) 1 (trailing_set s s p (below_power s)))
+takes_lowest s h fits =
+    let z = bit_at-trailing_zeros w64 s.bits (some_bit s h) fits in
+    let has = eq-eqb _ _ z.1 in
+    record { within = z.0; has = has; lowest = λ i l. ap (λ n. eqb n 1) (z.2 i l); rest = member_without s _ z.0 has }

@@ -1,12 +1,12 @@
 -- What the facts of an expression say of it.
-use Rattle.std.proofs.Common.{◌≡◌, ℕ, ◌<◌, Bool, true, false, not, ◌&&◌, ◌↔◌, List, [], ◌∷◌, ◌++◌, length, get_or, vec_items, sym, ap, ◌∙◌, arith}
+use Rattle.std.proofs.Common.{◌≡◌, ℕ, Bool, true, false, ◌↔◌, List, [], ◌∷◌, ◌++◌, length, sym, ap, ◌∙◌, arith}
 use Rattle.event.specs.declared.order.Order.{Order}
 use Rattle.event.specs.declared.order.Order.TheVariants.{Alike}
 use Rattle.regular.specs.Regex.{In, Barren}
-use Rattle.regular.specs.Automata.{Numbered, any_below, after, stuck}
+use Rattle.regular.specs.Automata.{Numbered, after, stuck}
 use Rattle.regular.specs.Expressions.{tree_of, labels_of, meets, expression_wants, expression_barren, HasRead}
-use Rattle.regular.specs.Machine.{Made}
-use Rattle.regular.specs.Members.{member, Below}
+use Rattle.regular.specs.Machine.{Steps}
+use Rattle.regular.specs.Members.{Empty, Below}
 use Rattle.regular.specs.declared.expression.Expression.{Expression}
 use Rattle.regular.specs.declared.reading.Reading.{Reading}
 use Rattle.regular.proofs.Accepting.{decides_in}
@@ -17,9 +17,6 @@ use Rattle.regular.proofs.Runs.{automaton_sticks}
 module _ {K : Type 0} (order : K → K → Order) (x : Expression K) where
   numbered_is : Numbered (tree_of x) 0 (length (labels_of x))
   numbered_is = numbered_from (tree_of x) 0 (length (labels_of x)) x.ordered (omega (arith, x.counted))
-
-  is_made : Made (tree_of x) (length (labels_of x)) x.automaton
-  is_made = record { each = x.each; firsts = x.firsts; lasts = x.lasts; empties = x.empties; follows = x.follows }
 
   -- the automaton has a place for each label, and as many as leaves
   stuck_sized : (list : List K) → stuck (meets order x) (tree_of x) (length (labels_of x)) (after (meets order x) (tree_of x) (length (labels_of x)) list) ≡ expression_barren order x list
@@ -44,19 +41,15 @@ module _ {K : Type 0} (order : K → K → Order) (x : Expression K) where
     pub ended_wants : r.ended ≡ expression_wants order x list
     ended_wants = reads_wanted (meets order x) (tree_of x) (length (labels_of x)) numbered_is list r read
 
-    pub none_ahead_barren : (some : Bool) → (some ≡ true → 0 < r.ahead) → ((i : ℕ) → member r.ahead i ≡ true → some ≡ true) → not some ≡ expression_barren order x list
-    none_ahead_barren some if-so if-not =
-        reads_barren (meets order x) (tree_of x) (length (labels_of x)) numbered_is list r read some if-so if-not ∙ stuck_sized list
+    pub none_ahead_barren : (empty : Bool) → (empty ≡ true) ↔ Empty r.ahead → empty ≡ expression_barren order x list
+    none_ahead_barren empty tells =
+        reads_barren (meets order x) (tree_of x) (length (labels_of x)) numbered_is list r read empty tells ∙ stuck_sized list
 
     pub ahead_below : Below r.ahead (length (labels_of x))
     ahead_below = reads_within (meets order x) (tree_of x) (length (labels_of x)) numbered_is _ r read
 
     -- one event more is read
-    pub read_more :
-        (e : K) (r' : Reading) →
-        ((q : ℕ) → member r'.ahead q ≡ any_below (λ p. (member r.ahead p && meets order x p e) && member (get_or (vec_items x.automaton.follow) p 0) q) (length (labels_of x))) →
-        r'.ended ≡ any_below (λ p. (member r.ahead p && meets order x p e) && member x.automaton.last p) (length (labels_of x)) →
-        HasRead order x (list ++ (e ∷ [])) r'
-    read_more e r' next over =
+    pub read_more : (e : K) (r' : Reading) → Steps x.automaton (length (labels_of x)) (λ p. meets order x p e) r r' → HasRead order x (list ++ (e ∷ [])) r'
+    read_more e r' steps =
         reads_more (meets order x) (tree_of x) (length (labels_of x)) numbered_is list e r'
-        (step_reads (meets order x) (tree_of x) (length (labels_of x)) numbered_is x.automaton is_made _ r r' e read next over)
+        (step_reads (meets order x) (tree_of x) (length (labels_of x)) numbered_is x.automaton x.made _ r r' e read steps)

@@ -2,7 +2,7 @@
 use Rattle.std.specs.Prelude.{ℕ, Bool, List, length, vec_items}
 use Rattle.event.specs.declared.order.Order.{Order}
 use Rattle.regular.specs.Regex.{Regex}
-use Rattle.regular.specs.Trees.{tree}
+use Rattle.regular.specs.Rooted.{rooted_tree}
 use Rattle.regular.specs.Accepts.{accepts}
 use Rattle.regular.specs.Automata.{fits, after, sticks}
 use Rattle.regular.specs.Labels.{suits}
@@ -13,7 +13,7 @@ use Rattle.regular.specs.declared.reading.Reading.{Reading}
 
 -- the tree of an expression, over the numbers of its leaves
 abbrev pub tree_of : {K : Type 0} → Expression K → Regex ℕ
-tree_of x = tree (vec_items x.table.nodes) x.root
+tree_of x = rooted_tree x.rooted
 
 -- what stands at its leaves
 abbrev pub labels_of : {K : Type 0} → Expression K → List (Label K)

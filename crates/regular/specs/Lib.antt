@@ -1,5 +1,6 @@
 pub mod Regex
 pub mod Trees
+pub mod Rooted
 pub mod Accepts
 pub mod Automata
 pub mod Members

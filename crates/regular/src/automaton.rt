@@ -1,37 +1,34 @@
-ghost use Rattle.std.specs.Prelude.{◌<◌, ◌≤◌, length, IfOk};
+ghost use Rattle.std.specs.Prelude.{◌≤◌, IfOk};
 ghost use Rattle.regular.specs.Machine.{Made};
-ghost use Rattle.regular.specs.Trees.{tree};
+ghost use Rattle.regular.specs.Rooted.{rooted_tree};
 
-use crate::parts::{empty, first, follows, last};
-use crate::table::Table;
+use crate::set::Places;
+use crate::table::Rooted;
 use std::alloc::{AllocError, Global};
 
 /// The automaton of an expression, whose places are its leaves: where a list may begin, where it may end, whether it may be empty, and which places may stand behind each.
 #[derive(Drop)]
 pub struct Automaton {
-    pub(crate) first: u64,
-    pub(crate) last: u64,
+    pub(crate) first: Places,
+    pub(crate) last: Places,
     pub(crate) empty: bool,
-    pub(crate) follow: Vec<u64>,
+    pub(crate) follow: Vec<Places>,
 }
 
-// The automaton of the node root, with some places.
-pub(crate) fn prepare(
-    table: &Table,
-    root: usize,
-    count: usize,
-    heap: Global,
-) -> Result<Automaton, AllocError>
-    requires within { root < length table.now.nodes.items }
-    requires few { count ≤ 60 }
-    ensures { IfOk result (λ a. Made (tree table.now.nodes.items root) count a) }
-{
-    let mut follow = vec![in heap; 0; count]?;
-    follows(&table.nodes, root, &mut follow);
-    Ok(Automaton {
-        first: first(&table.nodes, root),
-        last: last(&table.nodes, root),
-        empty: empty(&table.nodes, root),
-        follow,
-    })
+impl Automaton {
+    // The automaton of an expression, with some places.
+    pub(crate) fn new(rooted: &Rooted, count: usize, heap: Global) -> Result<Automaton, AllocError>
+        requires { count ≤ 60 }
+        ensures { IfOk result (λ a. Made (rooted_tree rooted.now) count a) }
+    {
+        let Rooted { table, root } = rooted;
+        let mut follow = vec![in heap; Places::new(); count]?;
+        table.follows(*root, &mut follow);
+        Ok(Automaton {
+            first: table.first(*root),
+            last: table.last(*root),
+            empty: table.takes_empty(*root),
+            follow,
+        })
+    }
 }

@@ -5,6 +5,7 @@ use event::kind::Kind;
 use event::order::Order;
 
 /// What stands at a leaf: a dot, which any one event meets, or a label's event.
+// an enum and no `Option`: a text may be no leaf at all, and `Option<Option<K>>` would say less than `Option<Label<K>>`
 #[derive(Clone, Copy)]
 pub enum Label<K> {
     Any,
@@ -18,7 +19,7 @@ impl<K: Kind> Label<K> {
     {
         match self {
             Label::Any => true,
-            Label::Event(label) => matches!(label.compare(event), Order::Alike),
+            Label::Event(label) => label.compare(event) == Order::Alike,
         }
     }
 }
