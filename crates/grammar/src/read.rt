@@ -20,6 +20,7 @@ pub struct Rooted {
 }
 
 // Each reads a part from the next mark on, where so many brackets are open, and returns its node.
+// They call each other in a cycle, so they go over plain marks.
 impl Reader<'_> {
     // Reads an expression: terms, parted by bars.
     #[cycle(atom_expression_factor_term)]

@@ -40,6 +40,7 @@ impl Reader<'_> {
         ensures grown { Grown self.old.table.nodes.items self.new.table.nodes.items }
         ensures added { MatchResult result (λ n. Added self.new.table.nodes.items n node) (λ f. NoRoom f) }
     {
+        // A push through `self` has no proof yet, as the reader holds a reference.
         let table = &mut self.table;
         let number = table.nodes.len();
         table.nodes.push(node)?;
