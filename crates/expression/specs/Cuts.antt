@@ -1,5 +1,6 @@
 -- How a text is cut into marks.
 use Rattle.std.specs.Prelude.{ℕ, ◌+◌, ◌-◌, Bool, false, cond, ◌&&◌, ◌||◌, List, [], ◌∷◌, ◌++◌, Some, None, Option, ◌==◌, nat_le}
+use Rattle.std.specs.Option.{option_to_list}
 use Rattle.event.specs.declared.span.Span.{Span}
 use Rattle.event.specs.Spans.{span}
 
@@ -33,15 +34,10 @@ ended begun at b = cond (goes_on b) None (lone begun at)
 abbrev pub alone : Option ℕ → ℕ → ℕ → Option Span
 alone begun at b = cond (stays_in begun b || (is_digit b || b == 32)) None (Some (span at 1))
 
--- one or none
-abbrev pub few : Option Span → List Span
-few (Some s) = s ∷ []
-few None = []
-
 -- the marks of a text from a place on, where a label may be open
 abbrev pub spans_from : ℕ → Option ℕ → List ℕ → List Span
-spans_from at begun [] = few (lone begun at)
-spans_from at begun (b ∷ text) = few (ended begun at b) ++ (few (alone begun at b) ++ spans_from (at + 1) (next_begun begun at b) text)
+spans_from at begun [] = option_to_list (lone begun at)
+spans_from at begun (b ∷ text) = option_to_list (ended begun at b) ++ (option_to_list (alone begun at b) ++ spans_from (at + 1) (next_begun begun at b) text)
 
 -- the marks of a text, by their places
 abbrev pub spans_in : List ℕ → List Span

@@ -4,6 +4,8 @@ use Rattle.event.specs.declared.refusal.Refusal.{Refusal}
 use Rattle.event.specs.declared.refusal.Refusal.TheVariants as refusal
 use Rattle.event.specs.declared.span.Span.{Span}
 use Rattle.event.specs.Spans.{span}
+use Rattle.grammar.specs.declared.mark.ReadFault.{ReadFault}
+use Rattle.grammar.specs.declared.mark.ReadFault.TheVariants.{Mark as MarkFault, Size as LargeFault, Memory as NoMemory}
 use Rattle.grammar.specs.Faults.{Fault, wrong, large, fault_of}
 use Rattle.grammar.specs.Grammar.{Reads, expression}
 use Rattle.regular.specs.Expressions.{tree_of, labels_of}
@@ -28,6 +30,12 @@ span_of Size = None
 -- the place of the mark with a number, or of the end behind the last
 abbrev pub span_at : List Span → ℕ → ℕ → Span
 span_at spans end i = slice_index_or spans i (span end 0)
+
+-- what a fault in the marks with these places is for their text
+abbrev pub error_at : List Span → ℕ → ReadFault → ReadError
+error_at spans end (MarkFault i) = Refused (Mark (span_at spans end i))
+error_at spans end LargeFault = Refused Size
+error_at spans end NoMemory = Memory
 
 -- the fault of a text whose marks have a fault
 abbrev pub placed : List ℕ → Option Fault → Option ExpressionFault

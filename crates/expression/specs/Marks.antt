@@ -1,6 +1,6 @@
 -- What a mark is, for a kind of event by its labels.
 use Rattle.std.specs.Prelude.{ℕ, cond, List, [], ◌∷◌, map, Some, None, Option, ◌==◌}
-use Rattle.std.specs.List.{flat_map}
+use Rattle.std.specs.List.{filter_map}
 use Rattle.event.specs.Spans.{spanned}
 use Rattle.grammar.specs.declared.mark.Mark.{Mark}
 use Rattle.grammar.specs.declared.mark.Mark.TheVariants.{Leaf, Open, Close, Bar, Star, Plus, Maybe, Other}
@@ -26,11 +26,6 @@ abbrev pub leaf_or : {K : Type 0} → Option K → Mark
 leaf_or (Some e) = Leaf
 leaf_or None = Other
 
--- one leaf or none
-abbrev pub leaf_list : {K : Type 0} → Option (Label K) → List (Label K)
-leaf_list (Some l) = l ∷ []
-leaf_list None = []
-
 module _ {K : Type 0} (labelled : List ℕ → Option K) where
   -- the mark of some bytes: a label of the kind is a leaf, and other labels fit nowhere
   abbrev pub mark_of : List ℕ → Mark
@@ -48,4 +43,4 @@ module _ {K : Type 0} (labelled : List ℕ → Option K) where
 
   -- what stands at the leaves of a text, in reading order
   abbrev pub leaves_in : List ℕ → List (Label K)
-  leaves_in text = flat_map (λ s. leaf_list (leaf_of (spanned text s))) (spans_in text)
+  leaves_in text = filter_map (λ s. leaf_of (spanned text s)) (spans_in text)

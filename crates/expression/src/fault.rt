@@ -7,7 +7,7 @@ use event::span::Span;
 use std::alloc::AllocError;
 
 /// Why a text is no expression.
-#[derive(Clone, Copy)]
+#[derive(Clone, Copy, Debug, PartialEq, Eq)]
 pub enum ExpressionFault {
     /// The first mark that cannot follow those before it, by its place and length, or the text's end.
     Mark(Span),
@@ -16,7 +16,7 @@ pub enum ExpressionFault {
 }
 
 /// Why a text was not read: a fault, or want of memory.
-#[derive(Clone, Copy)]
+#[derive(Clone, Copy, Debug, PartialEq, Eq)]
 pub enum ReadError {
     Refused(ExpressionFault),
     Memory,
@@ -30,7 +30,17 @@ impl From<AllocError> for ReadError {
     }
 }
 
+impl From<ExpressionFault> for ReadError {
+    ghost from_gives = { λ fault r. r ≡ reading.Refused fault };
+
+    fn from(fault: ExpressionFault) -> ReadError {
+        ReadError::Refused(fault)
+    }
+}
+
 impl ExpressionFault {
+    // The faults of all layers are asked by the same two methods.
+
     /// The refusal that this fault is.
     pub fn refusal(&self) -> Refusal
         ensures { result ≡ refusal_of self.now }

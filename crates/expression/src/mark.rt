@@ -1,16 +1,15 @@
 ghost use Rattle.std.specs.Prelude.{◌≡◌, map, IfOk};
-ghost use Rattle.std.specs.List.{flat_map};
+ghost use Rattle.std.specs.List.{filter_map};
 ghost use Rattle.event.specs.Spans.{spanned};
-ghost use Rattle.expression.specs.Marks.{sign_of, mark_of, leaf_of, leaf_list};
+ghost use Rattle.expression.specs.Marks.{sign_of, mark_of, leaf_of};
 
-use crate::cut::is_digit;
 use event::kind::Kind;
 use event::span::{Span, part};
 use grammar::mark::Mark;
 use regular::label::Label;
 use std::alloc::{AllocError, Global};
 
-// The mark that a byte is alone.
+// The mark that a byte is alone; marks are told by their characters.
 fn sign(byte: u8) -> Mark
     ensures { result ≡ sign_of byte }
 {
@@ -30,15 +29,10 @@ fn sign(byte: u8) -> Mark
 fn mark_of<K: Kind>(bytes: &[u8]) -> Mark
     ensures { result ≡ mark_of K.Kind.labelled bytes.now }
 {
-    let [first, ..] = bytes else {
-        return Mark::Other;
-    };
-    if !is_digit(*first) {
-        return sign(*first);
-    }
-    match K::read_label(bytes) {
-        Ok(_) => Mark::Leaf,
-        Err(_) => Mark::Other,
+    match bytes {
+        [b'0'..=b'9', ..] => K::read_label(bytes).map_or(Mark::Other, |_| Mark::Leaf),
+        [first, ..] => sign(*first),
+        [] => Mark::Other,
     }
 }
 
@@ -46,18 +40,10 @@ fn mark_of<K: Kind>(bytes: &[u8]) -> Mark
 fn leaf_of<K: Kind>(bytes: &[u8]) -> Option<Label<K>>
     ensures { result ≡ leaf_of K.Kind.labelled bytes.now }
 {
-    let [first, ..] = bytes else {
-        return None;
-    };
-    if !is_digit(*first) {
-        if *first == b'.' {
-            return Some(Label::Any);
-        }
-        return None;
-    }
-    match K::read_label(bytes) {
-        Ok(event) => Some(Label::Event(event)),
-        Err(_) => None,
+    match bytes {
+        [b'0'..=b'9', ..] => K::read_label(bytes).ok().map(Label::Event),
+        [b'.', ..] => Some(Label::Any),
+        _ => None,
     }
 }
 
@@ -69,11 +55,10 @@ pub(crate) fn marks_at<K: Kind>(
 ) -> Result<Vec<Mark>, AllocError>
     ensures { IfOk result (λ marks. marks.items ≡ map (λ s. mark_of K.Kind.labelled (spanned text.now s)) spans.now) }
 {
-    let mut marks = Vec::new(heap);
-    for span in spans {
-        marks.push(mark_of::<K>(part(text, *span)))?;
-    }
-    Ok(marks)
+    spans
+        .iter()
+        .map(|span| mark_of::<K>(part(text, *span)))
+        .collect(heap)
 }
 
 // What stands at the leaves of a text that was cut.
@@ -82,14 +67,10 @@ pub(crate) fn leaves_at<K: Kind>(
     spans: &[Span],
     heap: Global,
 ) -> Result<Vec<Label<K>>, AllocError>
-    ensures { IfOk result (λ leaves. leaves.items ≡ flat_map (λ s. leaf_list (leaf_of K.Kind.labelled (spanned text.now s))) spans.now) }
+    ensures { IfOk result (λ leaves. leaves.items ≡ filter_map (λ s. leaf_of K.Kind.labelled (spanned text.now s)) spans.now) }
 {
-    let mut leaves = Vec::new(heap);
-    for span in spans {
-        let Some(leaf) = leaf_of::<K>(part(text, *span)) else {
-            continue;
-        };
-        leaves.push(leaf)?;
-    }
-    Ok(leaves)
+    spans
+        .iter()
+        .filter_map(|span| leaf_of::<K>(part(text, *span)))
+        .collect(heap)
 }

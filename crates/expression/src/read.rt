@@ -1,5 +1,7 @@
-ghost use Rattle.std.specs.Prelude.{◌≡◌, length, MatchResult};
-ghost use Rattle.expression.specs.Faults.{span_at, ReadAs, NotRead};
+ghost use Rattle.std.specs.Prelude.{◌≡◌, MatchResult};
+ghost use Rattle.grammar.specs.declared.mark.ReadFault.{ReadFault};
+ghost use Rattle.grammar.specs.Readings.{Whole, NotWhole};
+ghost use Rattle.expression.specs.Faults.{span_at, error_at, ReadAs, NotRead};
 
 use crate::cut::cut;
 use crate::fault::{ExpressionFault, ReadError};
@@ -7,8 +9,8 @@ use crate::mark::{leaves_at, marks_at};
 use crate::matches::Matches;
 use event::kind::Kind;
 use event::span::Span;
-use grammar::mark::ReadFault;
-use grammar::read::read_marks;
+use grammar::mark::{Mark, ReadFault};
+use grammar::read::{Rooted, read_marks};
 use regular::expression::Expression;
 use std::alloc::Global;
 
@@ -19,13 +21,28 @@ pub const MOST_TEXT: usize = 256;
 fn span_at(spans: &[Span], end: usize, number: usize) -> Span
     ensures { result ≡ span_at spans.now end number }
 {
-    if number < spans.len() {
-        return spans[number];
-    }
-    Span {
+    spans.get(number).copied().unwrap_or(Span {
         start: end,
         length: 0,
+    })
+}
+
+// What a fault in the marks with these places is for their text.
+fn error_at(spans: &[Span], end: usize, fault: ReadFault) -> ReadError
+    ensures { result ≡ error_at spans.now end fault }
+{
+    match fault {
+        ReadFault::Mark(number) => ExpressionFault::Mark(span_at(spans, end, number)).into(),
+        ReadFault::Size => ExpressionFault::Size.into(),
+        ReadFault::Memory => ReadError::Memory,
     }
+}
+
+// Reads the marks with these places, and says of a fault what it is for their text.
+fn read_at(marks: &[Mark], spans: &[Span], end: usize, heap: Global) -> Result<Rooted, ReadError>
+    ensures { MatchResult result (λ r. Whole marks.now r.table.nodes.items r.root) (λ e. (f : ReadFault) × NotWhole marks.now f × (e ≡ error_at spans.now end f)) }
+{
+    read_marks(marks, heap).map_err(|fault| error_at(spans, end, fault))
 }
 
 /// Reads a text as an expression over the labels of a kind.
@@ -33,20 +50,12 @@ pub fn read_expression<K: Kind>(text: &[u8], heap: Global) -> Result<Matches<K>,
     ensures { MatchResult result (λ m. ReadAs K.Kind.labelled text.now m) (λ e. NotRead K.Kind.labelled text.now e) }
 {
     if text.len() > MOST_TEXT {
-        return Err(ReadError::Refused(ExpressionFault::Size));
+        return Err(ExpressionFault::Size.into());
     }
     let spans = cut(text, heap)?;
     let marks = marks_at::<K>(text, &spans, heap)?;
-    let rooted = match read_marks(&marks, heap) {
-        Ok(rooted) => rooted,
-        Err(ReadFault::Mark(number)) => {
-            let span = span_at(&spans, text.len(), number);
-            return Err(ReadError::Refused(ExpressionFault::Mark(span)));
-        }
-        Err(ReadFault::Size) => return Err(ReadError::Refused(ExpressionFault::Size)),
-        Err(ReadFault::Memory) => return Err(ReadError::Memory),
-    };
+    let Rooted { table, root } = read_at(&marks, &spans, text.len(), heap)?;
     let leaves = leaves_at::<K>(text, &spans, heap)?;
-    let expression = Expression::new(leaves, rooted.table, rooted.root, heap)?;
+    let expression = Expression::new(leaves, table, root, heap)?;
     Ok(Matches { expression })
 }

@@ -1,6 +1,10 @@
 -- What is read of an expression, part by part.
-use Rattle.std.proofs.Common.{◌≡◌, ℕ, ◌+◌, ◌<◌, ◌≤◌, true, false, ◌⊎◌, List, length, get_or, Some, None, sym, refl, ap, ◌∙◌, subst, inl, inr, ⊎_elim, arith}
+use Rattle.std.proofs.Common.{◌≡◌, ℕ, ◌+◌, ◌<◌, ◌≤◌, true, false, ◌⊎◌, List, length, get_or, slice_get, Some, None, Option, MatchOption, Result, MatchResult, vec_items, sym, refl, ap, ◌∙◌, subst, inl, inr, ⊎_elim, arith}
+use Rattle.std.specs.Result.{IsErrAnd}
 use Rattle.std.proofs.lemmas.Bool.{lt-ltb, le-ltb, ne_eqb, cases_lt}
+use Rattle.std.proofs.lemmas.Option.{none-some, slice_get_within, get_or_from_slice_get, slice_get-get_or}
+use Rattle.std.proofs.lemmas.Result.{MatchResult-weaker, err_from_is_err_and}
+use Rattle.grammar.specs.declared.reader.Reader.{Reader}
 use Rattle.regular.specs.declared.node.Node.{Node}
 use Rattle.regular.specs.declared.node.Node.TheVariants.{Leaf as LeafNode, Then, Either, Star as StarNode, Plus as PlusNode, Maybe as MaybeNode}
 use Rattle.regular.specs.Regex.{Regex, seq, alt, star, plus, opt}
@@ -11,7 +15,7 @@ use Rattle.grammar.specs.declared.mark.ReadFault.{ReadFault}
 use Rattle.grammar.specs.declared.mark.ReadFault.TheVariants.{Mark as MarkFault, Size, Memory}
 use Rattle.grammar.specs.Grammar.{At, Sort, expression, term, factor, atom, Reads, lone_term, bar, lone_factor, next, lone_atom, starred, plussed, optional, leaf, bracket}
 use Rattle.grammar.specs.Faults.{state, fits, wrong, fault_at, fault_of}
-use Rattle.grammar.specs.Readings.{Added, LeafAdded, NoLeaf, mark_level, Reading, Gives, Refuses, repeat_of, Whole}
+use Rattle.grammar.specs.Readings.{Added, LeafAdded, NoRoom, NoLeaf, mark_level, Reading, Gives, Refuses, Read, repeat_of, Whole}
 use Rattle.grammar.proofs.Tables.{tree_at, tree_kept, grown_on}
 use Rattle.grammar.proofs.Steps.{none_such, fault_goes, fault_large, fault_unfit, fault_end, fault_none, fault_begins, closes, closed}
 
@@ -92,25 +96,55 @@ unfit_atom Other d k a b = refl
 reading_as : {ms : List Mark} {s u : Sort} {d i k l n j : ℕ} {ns : List Node} → Reads ms u i j k l (tree ns n) → Reading ms s d i k l ns n j → Reading ms u d i k l ns n j
 reading_as x r = record { in_table = r.in_table; on = r.on; inside = r.inside; few = r.few; reads = x; same = r.same }
 
-pub gives_lone_term : {ms : List Mark} {d i k l n j : ℕ} {ns : List Node} → Gives ms term d i k l ns n j → (j < length ms → 3 < mark_level (get_or ms j Leaf)) → Gives ms expression d i k l ns n j
-gives_lone_term g e = record { reading = reading_as (lone_term _ _ _ _ _ g.reading.reads) g.reading; ends = e }
+-- a mark that stands at a place, by what a reader of the same marks sees there
+pub at_next : {ms xs : List Mark} {i : ℕ} {m : Mark} → xs ≡ ms → slice_get xs i ≡ Some m → At ms i m
+at_next {ms} {xs} {i} {m} e h = subst (λ (ys : List Mark). At ys i m) e (record { inside = slice_get_within xs i m h; is = get_or_from_slice_get xs i m Leaf h })
 
-pub gives_lone_factor : {ms : List Mark} {d i k l n j : ℕ} {ns : List Node} → Gives ms factor d i k l ns n j → (j < length ms → 2 < mark_level (get_or ms j Leaf)) → Gives ms term d i k l ns n j
-gives_lone_factor g e = record { reading = reading_as (lone_factor _ _ _ _ _ g.reading.reads) g.reading; ends = e }
+-- and the other way
+seen : {ms xs : List Mark} {i : ℕ} {m : Mark} → xs ≡ ms → i < length ms → get_or ms i Leaf ≡ m → slice_get xs i ≡ Some m
+seen {ms} {xs} {i} e h o = ap (λ (ys : List Mark). slice_get ys i) e ∙ slice_get-get_or ms i Leaf h ∙ ap Some o
+
+pub gives_lone_term : {ms xs : List Mark} {d i k l n j : ℕ} {ns : List Node} → xs ≡ ms → Gives ms term d i k l ns n j → (slice_get xs j ≡ Some Bar → ⊥) → Gives ms expression d i k l ns n j
+gives_lone_term e g b =
+    record { reading = reading_as (lone_term _ _ _ _ _ g.reading.reads) g.reading; ends = λ h. level_expression _ (λ o. b (seen e h o)) (g.ends h) }
+
+pub gives_lone_factor : {ms xs : List Mark} {d i k l n j : ℕ} {ns : List Node} → xs ≡ ms → Gives ms factor d i k l ns n j → (slice_get xs j ≡ Some Leaf → ⊥) → (slice_get xs j ≡ Some Open → ⊥) → Gives ms term d i k l ns n j
+gives_lone_factor e g a b =
+    record { reading = reading_as (lone_factor _ _ _ _ _ g.reading.reads) g.reading; ends = λ h. level_term _ (λ o. a (seen e h o)) (λ o. b (seen e h o)) (g.ends h) }
+
+pub gives_factor : {ms xs : List Mark} {d i k l n j : ℕ} {ns : List Node} → xs ≡ ms → Reading ms factor d i k l ns n j → ((m : Mark) → slice_get xs j ≡ Some m → repeat_of m n ≡ None) → Gives ms factor d i k l ns n j
+gives_factor {n = n} e r f = record { reading = r; ends = λ h. level_factor _ n (f _ (seen e h refl)) }
 
 pub reading_lone_atom : {ms : List Mark} {d i k l n j : ℕ} {ns : List Node} → Reading ms atom d i k l ns n j → Reading ms factor d i k l ns n j
 reading_lone_atom r = reading_as (lone_atom _ _ _ _ _ r.reads) r
 
--- what was counted, under another name
-pub reading_counted : {ms : List Mark} {s : Sort} {d i k l n j : ℕ} {ns : List Node} (m : ℕ) → m ≡ l → Reading ms s d i k l ns n j → Reading ms s d i k m ns n j
-reading_counted {ms} {s} {d} {i} {k} {l} {n} {j} {ns} m e r = subst (λ (x : ℕ). Reading ms s d i k x ns n j) (sym e) r
+-- the same marks, and the same numbers, under other names
+pub gives_in : {ms xs : List Mark} {s : Sort} {d i k l n j : ℕ} {ns : List Node} → xs ≡ ms → Gives xs s d i k l ns n j → Gives ms s d i k l ns n j
+gives_in {s = s} {d} {i} {k} {l} {n} {j} {ns} e = subst (λ (ys : List Mark). Gives ys s d i k l ns n j) e
 
-pub gives_counted : {ms : List Mark} {s : Sort} {d i k l n j : ℕ} {ns : List Node} (m : ℕ) → m ≡ l → Gives ms s d i k l ns n j → Gives ms s d i k m ns n j
-gives_counted m e g = record { reading = reading_counted m e g.reading; ends = g.ends }
+pub refuses_in : {ms xs : List Mark} (d i k : ℕ) (f : ReadFault) → xs ≡ ms → Refuses xs d i k f → Refuses ms d i k f
+refuses_in d i k f e = subst (λ (ys : List Mark). Refuses ys d i k f) e
+
+pub reading_as_far : {ms : List Mark} {s : Sort} {d i k l n j : ℕ} {ns : List Node} (m h : ℕ) → m ≡ l → h ≡ j → Reading ms s d i k l ns n j → Reading ms s d i k m ns n h
+reading_as_far {ms} {s} {d} {i} {k} {l} {n} {j} {ns} m h e x r =
+    subst (λ (y : ℕ). Reading ms s d i k m ns n y) (sym x) (subst (λ (y : ℕ). Reading ms s d i k y ns n j) (sym e) r)
+
+pub gives_as_far : {ms : List Mark} {s : Sort} {d i k l n j : ℕ} {ns : List Node} (m h : ℕ) → m ≡ l → h ≡ j → Gives ms s d i k l ns n j → Gives ms s d i k m ns n h
+gives_as_far {ms} {s} {d} {i} {k} {l} {n} {j} {ns} m h e x r =
+    subst (λ (y : ℕ). Gives ms s d i k m ns n y) (sym x) (subst (λ (y : ℕ). Gives ms s d i k y ns n j) (sym e) r)
+
+-- a refusal that is handed on
+pub refused : (s : Sort) (d : ℕ) (old new : Reader) (r : Result ℕ ReadFault) (f : ReadFault) → IsErrAnd r (λ y. y ≡ f) → Refuses old.marks.now d old.at old.leaves f → Read s d old new r
+refused s d old new r f e h = let p = err_from_is_err_and r e in rw (p.1, p.2) h
+
+-- what is read where one more node is added, if it is
+pub read_added : (s : Sort) (d : ℕ) (old new : Reader) (v : Node) (r : Result ℕ ReadFault) → MatchResult r (λ n. Added (vec_items new.table.nodes) n v) NoRoom
+    → ((n : ℕ) → Added (vec_items new.table.nodes) n v → Gives old.marks.now s d old.at old.leaves new.leaves (vec_items new.table.nodes) n new.at) → Read s d old new r
+read_added s d old new v r a g = MatchResult-weaker r a g (λ f e. subst (Refuses old.marks.now d old.at old.leaves) (sym e) tt)
 
 -- a mark that begins an atom
-pub begins_atom : {ms : List Mark} {i : ℕ} → i < length ms → (get_or ms i Leaf ≡ Leaf) ⊎ (get_or ms i Leaf ≡ Open) → At ms i Leaf ⊎ At ms i Open
-begins_atom h = ⊎_elim (λ e. inl (record { inside = h; is = e })) (λ e. inr (record { inside = h; is = e }))
+pub begins_atom : {ms : List Mark} {i : ℕ} {m : Mark} → At ms i m → (m ≡ Leaf) ⊎ (m ≡ Open) → At ms i Leaf ⊎ At ms i Open
+begins_atom {ms} {i} o = ⊎_elim (λ e. inl (subst (At ms i) e o)) (λ e. inr (subst (At ms i) e o))
 
 -- from a term and a bar on
 pub fault_bar : {ms : List Mark} {d i k m a h : ℕ} {ns : List Node} → Reading ms term d i k m ns a h → At ms h Bar → fault_at ms i (state d k true) ≡ fault_at ms (h + 1) (state d m true)
@@ -174,6 +208,11 @@ reading_repeat {ms} {d} {i} {j} {k} {l} {a} {n} {t0} {t1} {m = Maybe} {v} f0 f1 
     longer opt v f0 f1 g s w (ap (node_tree (tree t1)) x) (optional i j k l _ s.reads o) o.inside (fault_goes (state d l false) o refl refl)
 reading_repeat {m = Other} f0 f1 g s o e w = none_such (cc)
 
+-- the mark that repeats, where the next one does
+pub repeats : (o : Option Mark) (n : ℕ) (r : Option Node) (v : Node) → MatchOption o (r ≡ None) (λ m. r ≡ repeat_of m n) → r ≡ Some v → (m : Mark) × (o ≡ Some m) × (repeat_of m n ≡ Some v)
+repeats None n r v a e = absurd (none-some v (sym a ∙ e))
+repeats (Some m) n r v a e = (m, refl, sym a ∙ e)
+
 pub gives_leaf : {ms : List Mark} {i k l n : ℕ} {ns : List Node} (d : ℕ) → Falling ns → At ms i Leaf → LeafAdded k l ns n → Gives ms atom d i k l ns n (i + 1)
 gives_leaf {ms} {i} {k} {l} {n} {ns} d f o a =
     let e = a.counted in
@@ -224,28 +263,38 @@ refuses_leaf d k o (MarkFault p) h = absurd h
 refuses_leaf {ms} {i} d k o Size h = (i, fault_large (state d k true) o refl (le-ltb k 60 h))
 refuses_leaf d k o Memory h = tt
 
+-- no mark that begins an atom
+pub no_atom : (ms : List Mark) (d i k : ℕ) → (slice_get ms i ≡ Some Leaf → ⊥) → (slice_get ms i ≡ Some Open → ⊥) → fault_at ms i (state d k true) ≡ Some (wrong i)
+no_atom ms d i k a b =
+    ⊎_elim
+    (λ h. fault_unfit (state d k true) (record { inside = h; is = refl }) (unfit_atom (get_or ms i Leaf) d k (λ e. a (seen refl h e)) (λ e. b (seen refl h e))))
+    (λ h. fault_end ms i (state d k true) h refl)
+    (cases_lt i (length ms))
+
 -- a bracket too many
 pub refuses_open : {ms : List Mark} {i : ℕ} (d k : ℕ) → At ms i Open → 16 ≤ d → Refuses ms d i k Size
 refuses_open {ms} {i} d k o h = (i, fault_large (state d k true) o refl (le-ltb d 16 h))
 
 -- no bracket that closes behind an expression in brackets
-pub unclosed : {ms : List Mark} {d i j k l n : ℕ} {ns : List Node} → At ms i Open → d < 16 → Gives ms expression (d + 1) (i + 1) k l ns n j → (j < length ms → get_or ms j Leaf ≡ Close → ⊥) → fault_at ms i (state d k true) ≡ Some (wrong j)
-unclosed {ms} {d} {i} {j} {k} {l} o h g c =
+pub unclosed : {ms xs : List Mark} {d i j k l n : ℕ} {ns : List Node} → xs ≡ ms → At ms i Open → d < 16 → Gives ms expression (d + 1) (i + 1) k l ns n j → (slice_get xs j ≡ Some Close → ⊥) → fault_at ms i (state d k true) ≡ Some (wrong j)
+unclosed {ms} {d = d} {i} {j} {k} {l} x o h g c =
     fault_open d k o h ∙ g.reading.same
     ∙ ⊎_elim
-    (λ b. fault_unfit (state (d + 1) l false) (record { inside = b; is = refl }) (unfit_inside (get_or ms j Leaf) (d + 1) l (g.ends b) (c b)))
+    (λ b. fault_unfit (state (d + 1) l false) (record { inside = b; is = refl }) (unfit_inside (get_or ms j Leaf) (d + 1) l (g.ends b) (λ e. c (seen x b e))))
     (λ b. fault_end ms j (state (d + 1) l false) b (ne_eqb (d + 1) 0 (λ e. omega arith)))
     (cases_lt j (length ms))
 
 -- a mark behind an expression outside of brackets, and none
-pub left_over : {ms : List Mark} {j l n : ℕ} {ns : List Node} → Gives ms expression 0 0 0 l ns n j → j < length ms → fault_of ms ≡ Some (wrong j)
-left_over {ms} {j} {l} g b =
-    g.reading.same ∙ fault_unfit (state 0 l false) (record { inside = b; is = refl }) (unfit_outside (get_or ms j Leaf) l (g.ends b))
+pub left_over : {ms xs : List Mark} {j l n : ℕ} {ns : List Node} → xs ≡ ms → Gives ms expression 0 0 0 l ns n j → j < length xs → fault_of ms ≡ Some (wrong j)
+left_over {ms} {xs} {j} {l} e g b =
+    let h : j < length ms = omega (arith, ap length e) in
+    g.reading.same ∙ fault_unfit (state 0 l false) (record { inside = h; is = refl }) (unfit_outside (get_or ms j Leaf) l (g.ends h))
 
-pub whole : {ms : List Mark} {j l n : ℕ} {ns : List Node} → Gives ms expression 0 0 0 l ns n j → length ms ≤ j → Whole ms ns n
-whole {ms} {j} {l} {n} {ns} g b =
+pub whole : {ms xs : List Mark} {j l n : ℕ} {ns : List Node} → xs ≡ ms → Gives ms expression 0 0 0 l ns n j → slice_get xs j ≡ None → Whole ms ns n
+whole {ms} {xs} {j} {l} {n} {ns} x g s =
     let r = g.reading in
     let h = r.inside in
+    let b : length ms ≤ j = ⊎_elim (λ i. absurd (none-some (get_or ms j Leaf) (sym s ∙ seen x i refl))) (λ i. i) (cases_lt j (length ms)) in
     let e : j ≡ length ms = omega arith in
     record {
       faultless = r.same ∙ fault_none ms j (state 0 l false) b refl;

@@ -1,7 +1,5 @@
 -- Tables that grow keep the expressions of their nodes.
-use Rattle.std.proofs.Common.{◌≡◌, ℕ, zero, suc, ◌<◌, ◌≤◌, Bool, true, false, cond, List, [], ◌∷◌, ◌++◌, length, get_or, sym, refl, ap, ◌∙◌, subst, ⊎_elim, arith, length-append}
-use Rattle.std.proofs.lemmas.List.{get_or_append_left, get_or_push}
-use Rattle.std.proofs.lemmas.Bool.{cases_lt}
+use Rattle.std.proofs.Common.{◌≡◌, ℕ, zero, suc, ◌<◌, ◌≤◌, List, length, get_or, refl, ap, ◌∙◌, arith}
 use Rattle.regular.specs.declared.node.Node.{Node}
 use Rattle.regular.specs.declared.node.Node.TheVariants.{Leaf, Then, Either, Star, Plus, Maybe}
 use Rattle.regular.specs.Regex.{Regex, star, plus, opt}
@@ -45,17 +43,3 @@ tree_kept ns ms f w n h = same_depth ns ms f w (suc n) (suc n) n h (omega arith)
 pub grown_on : (a b c : List Node) → Grown a b → Grown b c → Grown a c
 grown_on a b c p q =
     record { longer = omega arith; same = λ n h. q.same n (omega arith) ∙ p.same n h }
-
--- what holds of each of a list, and of one more, holds of each of the list with that one
-each_append : (P : ℕ → Node → Type 0) (xs : List Node) (x d : Node) → ((n : ℕ) → n < length xs → P n (get_or xs n d)) → P (length xs) x → (n : ℕ) → n < length (xs ++ (x ∷ [])) → P n (get_or (xs ++ (x ∷ [])) n d)
-each_append P xs x d old new n h =
-    ⊎_elim
-    (λ l. subst (P n) (sym (get_or_append_left xs (x ∷ []) d n l)) (old n l))
-    (λ g. let m : n ≡ length xs = omega (arith, simp length-append at h) in
-    subst (P n) (sym (get_or_push xs x d n (sym m))) (subst (λ k. P k x) (sym m) new))
-    (cases_lt n (length xs))
-
-pub each_push : (P : ℕ → Node → Type 0) (b : Bool) (xs ys : List Node) (x d : Node) → ys ≡ cond b (xs ++ (x ∷ [])) xs → ((n : ℕ) → n < length xs → P n (get_or xs n d)) → P (length xs) x → (n : ℕ) → n < length ys → P n (get_or ys n d)
-each_push P true xs ys x d e old new =
-    subst (λ zs. (n : ℕ) → n < length zs → P n (get_or zs n d)) (sym e) (each_append P xs x d old new)
-each_push P false xs ys x d e old new = subst (λ zs. (n : ℕ) → n < length zs → P n (get_or zs n d)) (sym e) old

@@ -1,12 +1,13 @@
 -- What the readers answer.
-use Rattle.std.specs.Prelude.{◌≡◌, ℕ, ◌+◌, ◌<◌, ◌≤◌, true, false, List, length, get_or, Some, None, Option, slice_index_or}
+use Rattle.std.specs.Prelude.{◌≡◌, ℕ, ◌+◌, ◌<◌, ◌≤◌, true, false, List, length, get_or, Some, None, Option, Result, slice_index_or, vec_items, MatchResult}
 use Rattle.regular.specs.declared.node.Node.{Node}
 use Rattle.regular.specs.declared.node.Node.TheVariants.{Leaf as LeafNode, Star as StarNode, Plus as PlusNode, Maybe as MaybeNode}
-use Rattle.regular.specs.Trees.{tree}
+use Rattle.regular.specs.Trees.{Grown, tree}
 use Rattle.grammar.specs.declared.mark.Mark.{Mark}
 use Rattle.grammar.specs.declared.mark.Mark.TheVariants.{Leaf, Open, Close, Bar, Star, Plus, Maybe, Other}
 use Rattle.grammar.specs.declared.mark.ReadFault.{ReadFault}
 use Rattle.grammar.specs.declared.mark.ReadFault.TheVariants.{Mark as MarkFault, Size, Memory}
+use Rattle.grammar.specs.declared.reader.Reader.{Reader}
 use Rattle.grammar.specs.Grammar.{Sort, expression, term, factor, atom, Reads}
 use Rattle.grammar.specs.Faults.{state, wrong, large, fault_at, fault_of}
 
@@ -67,6 +68,18 @@ abbrev pub Refuses : List Mark → ℕ → ℕ → ℕ → ReadFault → Type 0
 Refuses ms depth from k (MarkFault i) = fault_at ms from (state depth k true) ≡ Some (wrong i)
 Refuses ms depth from k Size = (i : ℕ) × (fault_at ms from (state depth k true) ≡ Some (large i))
 Refuses ms depth from k Memory = Unit {0}
+
+-- a reader that has gone on: in the same marks, and with what its table had
+pub record Onward (old new : Reader) : Type 0 where
+  pub marks : new.marks.now ≡ old.marks.now
+  pub grown : Grown (vec_items old.table.nodes) (vec_items new.table.nodes)
+
+-- what a reader answers, where so many brackets are open: the node of the part that it has gone behind, or the fault of its marks
+abbrev pub Read : Sort → ℕ → Reader → Reader → Result ℕ ReadFault → Type 0
+Read sort depth old new answer =
+    MatchResult answer
+    (λ n. Gives old.marks.now sort depth old.at old.leaves new.leaves (vec_items new.table.nodes) n new.at)
+    (λ f. Refuses old.marks.now depth old.at old.leaves f)
 
 -- the node that a mark makes of another
 abbrev pub repeat_of : Mark → ℕ → Option Node

@@ -4,7 +4,7 @@ ghost use Rattle.grammar.specs.declared.mark.ReadFault.TheVariants.{Memory};
 use std::alloc::AllocFailed;
 
 /// A mark of an expression.
-#[derive(Clone, Copy)]
+#[derive(Clone, Copy, Debug, PartialEq, Eq)]
 pub enum Mark {
     /// A label or a dot.
     Leaf,
@@ -25,7 +25,7 @@ pub enum Mark {
 }
 
 /// Why marks are not read.
-#[derive(Clone, Copy)]
+#[derive(Clone, Copy, Debug, PartialEq, Eq)]
 pub enum ReadFault {
     /// The mark with this number does not fit; the number of marks where the end does not.
     Mark(usize),

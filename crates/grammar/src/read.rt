@@ -1,7 +1,6 @@
-ghost use Rattle.std.specs.Prelude.{◌≡◌, ◌+◌, ◌<◌, ◌≤◌, length, MatchResult};
-ghost use Rattle.regular.specs.Trees.{Grown};
+ghost use Rattle.std.specs.Prelude.{◌≡◌, MatchResult};
 ghost use Rattle.grammar.specs.Grammar.{expression as an_expression, term as a_term, factor as a_factor, atom as an_atom};
-ghost use Rattle.grammar.specs.Readings.{Gives, Refuses, repeat_of, Whole, NotWhole};
+ghost use Rattle.grammar.specs.Readings.{Onward, Read, repeat_of, Whole, NotWhole};
 ghost use Rattle.grammar.specs.Stands.{GrammarStands};
 
 use crate::mark::{Mark, ReadFault};
@@ -20,73 +19,79 @@ pub struct Rooted {
     pub root: usize,
 }
 
-// A part that was read: its node, and the number of the mark behind it.
-#[derive(Clone, Copy)]
-struct Part {
-    node: usize,
-    past: usize,
-}
-
-// Reads an expression: terms, parted by bars.
-#[cycle(atom_expression_factor_term)]
-fn expression(reader: &mut Reader, marks: &[Mark], at: usize, depth: u8) -> Result<Part, ReadFault>
-    requires { at ≤ length marks.now }
-    ensures grown { Grown reader.old.table.nodes.items reader.new.table.nodes.items }
-    ensures gives { MatchResult result (λ p. Gives marks.now an_expression depth at reader.old.leaves reader.new.leaves reader.new.table.nodes.items p.node p.past) (λ f. Refuses marks.now depth at reader.old.leaves f) }
-{
-    let left = term(reader, marks, at, depth)?;
-    if left.past < marks.len() {
-        if let Mark::Bar = marks[left.past] {
-            let right = expression(reader, marks, left.past + 1, depth)?;
-            let node = reader.add(Node::Either(left.node, right.node))?;
-            return Ok(Part {
-                node,
-                past: right.past,
-            });
-        }
-    }
-    Ok(left)
-}
-
-// Reads a term: factors, one behind the other.
-#[cycle(atom_expression_factor_term)]
-fn term(reader: &mut Reader, marks: &[Mark], at: usize, depth: u8) -> Result<Part, ReadFault>
-    requires { at ≤ length marks.now }
-    ensures grown { Grown reader.old.table.nodes.items reader.new.table.nodes.items }
-    ensures gives { MatchResult result (λ p. Gives marks.now a_term depth at reader.old.leaves reader.new.leaves reader.new.table.nodes.items p.node p.past) (λ f. Refuses marks.now depth at reader.old.leaves f) }
-{
-    let left = factor(reader, marks, at, depth)?;
-    if left.past < marks.len() {
-        if let Mark::Leaf | Mark::Open = marks[left.past] {
-            let right = term(reader, marks, left.past, depth)?;
-            let node = reader.add(Node::Then(left.node, right.node))?;
-            return Ok(Part {
-                node,
-                past: right.past,
-            });
-        }
-    }
-    Ok(left)
-}
-
-// Reads a factor: an atom, and what stands behind it of stars, pluses and question marks.
-#[cycle(atom_expression_factor_term)]
-fn factor(reader: &mut Reader, marks: &[Mark], at: usize, depth: u8) -> Result<Part, ReadFault>
-    requires { at ≤ length marks.now }
-    ensures grown { Grown reader.old.table.nodes.items reader.new.table.nodes.items }
-    ensures gives { MatchResult result (λ p. Gives marks.now a_factor depth at reader.old.leaves reader.new.leaves reader.new.table.nodes.items p.node p.past) (λ f. Refuses marks.now depth at reader.old.leaves f) }
-{
-    let first = atom(reader, marks, at, depth)?;
-    let mut node = first.node;
-    let mut past = first.past;
-    while past < marks.len() {
-        let Some(repeated) = repeat(marks[past], node) else {
-            break;
+// Each reads a part from the next mark on, where so many brackets are open, and returns its node.
+// They call each other in a cycle, so they go over plain marks.
+impl Reader<'_> {
+    // Reads an expression: terms, parted by bars.
+    #[cycle(atom_expression_factor_term)]
+    fn expression(&mut self, depth: u8) -> Result<usize, ReadFault>
+        ensures onward { Onward self.old self.new }
+        ensures gives { Read an_expression depth self.old self.new result }
+    {
+        let left = self.term(depth)?;
+        let Some(Mark::Bar) = self.next() else {
+            return Ok(left);
         };
-        node = reader.add(repeated)?;
-        past += 1;
+        self.at += 1;
+        let right = self.expression(depth)?;
+        self.add(Node::Either(left, right))
     }
-    Ok(Part { node, past })
+
+    // Reads a term: factors, one behind the other.
+    #[cycle(atom_expression_factor_term)]
+    fn term(&mut self, depth: u8) -> Result<usize, ReadFault>
+        ensures onward { Onward self.old self.new }
+        ensures gives { Read a_term depth self.old self.new result }
+    {
+        let left = self.factor(depth)?;
+        let Some(Mark::Leaf | Mark::Open) = self.next() else {
+            return Ok(left);
+        };
+        let right = self.term(depth)?;
+        self.add(Node::Then(left, right))
+    }
+
+    // Reads a factor: an atom, and what stands behind it of stars, pluses and question marks.
+    #[cycle(atom_expression_factor_term)]
+    fn factor(&mut self, depth: u8) -> Result<usize, ReadFault>
+        ensures onward { Onward self.old self.new }
+        ensures gives { Read a_factor depth self.old self.new result }
+    {
+        let mut node = self.atom(depth)?;
+        while let Some(repeated) = self.next().and_then(|mark| repeat(mark, node)) {
+            node = self.add(repeated)?;
+            self.at += 1;
+        }
+        Ok(node)
+    }
+
+    // Reads an atom: a leaf, or an expression in brackets.
+    #[cycle(atom_expression_factor_term)]
+    fn atom(&mut self, depth: u8) -> Result<usize, ReadFault>
+        ensures onward { Onward self.old self.new }
+        ensures gives { Read an_atom depth self.old self.new result }
+    {
+        match self.next() {
+            Some(Mark::Leaf) => {
+                let node = self.leaf()?;
+                self.at += 1;
+                Ok(node)
+            }
+            Some(Mark::Open) => {
+                if depth >= MOST_OPEN {
+                    return Err(ReadFault::Size);
+                }
+                self.at += 1;
+                let node = self.expression(depth + 1)?;
+                let Some(Mark::Close) = self.next() else {
+                    return Err(ReadFault::Mark(self.at));
+                };
+                self.at += 1;
+                Ok(node)
+            }
+            _ => Err(ReadFault::Mark(self.at)),
+        }
+    }
 }
 
 // The node that a star, a plus or a question mark makes of another.
@@ -101,56 +106,24 @@ fn repeat(mark: Mark, node: usize) -> Option<Node>
     }
 }
 
-// Reads an atom: a leaf, or an expression in brackets.
-#[cycle(atom_expression_factor_term)]
-fn atom(reader: &mut Reader, marks: &[Mark], at: usize, depth: u8) -> Result<Part, ReadFault>
-    requires { at ≤ length marks.now }
-    ensures grown { Grown reader.old.table.nodes.items reader.new.table.nodes.items }
-    ensures gives { MatchResult result (λ p. Gives marks.now an_atom depth at reader.old.leaves reader.new.leaves reader.new.table.nodes.items p.node p.past) (λ f. Refuses marks.now depth at reader.old.leaves f) }
-{
-    if at >= marks.len() {
-        return Err(ReadFault::Mark(at));
-    }
-    match marks[at] {
-        Mark::Leaf => {
-            let node = reader.leaf()?;
-            Ok(Part { node, past: at + 1 })
-        }
-        Mark::Open => {
-            if depth >= MOST_OPEN {
-                return Err(ReadFault::Size);
-            }
-            let inner = expression(reader, marks, at + 1, depth + 1)?;
-            if inner.past >= marks.len() {
-                return Err(ReadFault::Mark(inner.past));
-            }
-            let Mark::Close = marks[inner.past] else {
-                return Err(ReadFault::Mark(inner.past));
-            };
-            Ok(Part {
-                node: inner.node,
-                past: inner.past + 1,
-            })
-        }
-        _ => Err(ReadFault::Mark(at)),
-    }
-}
-
 /// Reads all the marks as one expression.
 pub fn read_marks(marks: &[Mark], heap: Global) -> Result<Rooted, ReadFault>
     ensures { MatchResult result (λ e. Whole marks.now e.table.nodes.items e.root) (λ f. NotWhole marks.now f) }
 {
-    let table = Table {
-        nodes: Vec::new(heap),
+    let nodes = Vec::new(heap);
+    let mut reader = Reader {
+        marks,
+        at: 0,
+        table: Table { nodes },
+        leaves: 0,
     };
-    let mut reader = Reader { table, leaves: 0 };
-    let whole = expression(&mut reader, marks, 0, 0)?;
-    if whole.past < marks.len() {
-        return Err(ReadFault::Mark(whole.past));
+    let root = reader.expression(0)?;
+    if reader.next().is_some() {
+        return Err(ReadFault::Mark(reader.at));
     }
     Ok(Rooted {
         table: reader.table,
-        root: whole.node,
+        root,
     })
 }
 
