@@ -10,8 +10,9 @@ use crate::matches::Matches;
 use event::kind::Kind;
 use event::span::Span;
 use grammar::mark::{Mark, ReadFault};
-use grammar::read::{Rooted, read_marks};
+use grammar::read::read_marks;
 use regular::expression::Expression;
+use regular::table::Rooted;
 use std::alloc::Global;
 
 /// The most bytes of a text.
@@ -54,8 +55,8 @@ pub fn read_expression<K: Kind>(text: &[u8], heap: Global) -> Result<Matches<K>,
     }
     let spans = cut(text, heap)?;
     let marks = marks_at::<K>(text, &spans, heap)?;
-    let Rooted { table, root } = read_at(&marks, &spans, text.len(), heap)?;
+    let rooted = read_at(&marks, &spans, text.len(), heap)?;
     let leaves = leaves_at::<K>(text, &spans, heap)?;
-    let expression = Expression::new(leaves, table, root, heap)?;
+    let expression = Expression::new(leaves, rooted, heap)?;
     Ok(Matches { expression })
 }

@@ -6,18 +6,11 @@ ghost use Rattle.grammar.specs.Stands.{GrammarStands};
 use crate::mark::{Mark, ReadFault};
 use crate::reader::Reader;
 use regular::node::Node;
-use regular::table::Table;
+use regular::table::{Rooted, Table};
 use std::alloc::Global;
 
 /// The most brackets that may be open.
 pub const MOST_OPEN: u8 = 16;
-
-/// A table with the node of the whole expression.
-#[derive(Drop)]
-pub struct Rooted {
-    pub table: Table,
-    pub root: usize,
-}
 
 // Each reads a part from the next mark on, where so many brackets are open, and returns its node.
 // They call each other in a cycle, so they go over plain marks.

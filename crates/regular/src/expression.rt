@@ -7,7 +7,7 @@ use crate::automaton::Automaton;
 use crate::label::Label;
 use crate::reading::Reading;
 use crate::set::Places;
-use crate::table::{Rooted, Table};
+use crate::table::Rooted;
 use event::kind::Kind;
 use std::alloc::{AllocError, Global};
 
@@ -23,28 +23,24 @@ pub struct Expression<K> {
 }
 
 impl<K: Kind> Expression<K> {
-    ghost use Rattle.std.specs.Prelude.{◌<◌, ◌≤◌, ◌↔◌, IfOk};
+    ghost use Rattle.std.specs.Prelude.{◌≤◌, ◌↔◌, IfOk};
     ghost use Rattle.regular.specs.Automata.{Numbered};
     ghost use Rattle.regular.specs.Expressions.{tree_of, labels_of, meets, expression_wants, expression_barren, HasRead};
     ghost use Rattle.regular.specs.Machine.{Steps};
     ghost use Rattle.regular.specs.Members.{Below};
     ghost use Rattle.regular.specs.Regex.{In, Barren};
-    ghost use Rattle.regular.specs.Trees.{tree};
 
-    /// The expression of a table's node. Its leaves are numbered in reading order, and each number has its label.
+    /// The expression of a rooted table. Its leaves are numbered in reading order, and each number has its label.
     pub fn new(
         labels: Vec<Label<K>>,
-        table: Table,
-        root: usize,
+        rooted: Rooted,
         heap: Global,
     ) -> Result<Expression<K>, AllocError>
-        requires within { root < length table.nodes.items }
-        requires numbered { Numbered (tree table.nodes.items root) 0 (length labels.items) }
+        requires numbered { Numbered (rooted_tree rooted) 0 (length labels.items) }
         requires few { length labels.items ≤ 60 }
-        ensures tree { IfOk result (λ x. tree_of x ≡ tree table.nodes.items root) }
+        ensures tree { IfOk result (λ x. tree_of x ≡ rooted_tree rooted) }
         ensures labels { IfOk result (λ x. labels_of x ≡ labels.items) }
     {
-        let rooted = Rooted { table, root };
         let automaton = Automaton::new(&rooted, labels.len(), heap)?;
         Ok(Expression {
             labels,
