@@ -6,7 +6,7 @@ use Rattle.event.specs.declared.order.Order.TheVariants.{Before, Alike, After}
 use Rattle.event.specs.Orders.{is_alike}
 use Rattle.matching.specs.Inclusion.{first_alike, place_after}
 
-alike_from : (o : Order) → is_alike o ≡ true → o ≡ Alike
+pub alike_from : (o : Order) → is_alike o ≡ true → o ≡ Alike
 alike_from Before e = absurd (let z : ◌≡◌ {A = ℕ} 0 1 = cc in omega arith)
 alike_from Alike e = refl
 alike_from After e = absurd (let z : ◌≡◌ {A = ℕ} 0 1 = cc in omega arith)
