@@ -47,7 +47,7 @@ impl<K: Kind> Picks<'_, K> {
             0
         };
         // an answer cannot be foretold, so it is shifted and added, which needs no branch
-        // (partition_point and binary_search_by were tried: more than twice as slow as plain Rust)
+        // (partition_point and binary_search_by were tried: they take more than twice as long as plain Rust)
         while power > 0 {
             power -= 1;
             let half = 1 << power;
