@@ -1,16 +1,17 @@
-use Rattle.std.proofs.Common.{◌≡◌, ℕ, ◌+◌, ◌<◌, ◌≤◌, ◌⊎◌, min, List, length, get_or, drop, refl, sym, ap, ◌∙◌, ⊎_elim, arith}
+use Rattle.std.proofs.Common.{◌≡◌, ℕ, ◌+◌, ◌<◌, ◌≤◌, ◌⊎◌, min, List, length, get_or, drop, sym, ap, ◌∙◌, ⊎_elim, arith}
 use Rattle.std.proofs.lemmas.List.{take_rest, length-drop, get_or-drop}
 use Rattle.bundle.proofs.Cuts.{tape_between, tape_past, between_within}
 use Rattle.bundle.proofs.tape.tape_at.Goals as goal
 use Rattle.bundle.proofs.tape.tape_at.Goals.{in_default-via-in-Some+then-get-lt2, in_default-via-in_default}
 
-none_from : (from to n : ℕ) → (to < from) ⊎ (n < to) → to ≡ n → n < from
-none_from from to n e same = ⊎_elim (λ (h : to < from). omega arith) (λ (h : n < to). absurd (omega arith)) e
+-- what begins at a place and goes to the end is missing only where the place is past the end
+past_end : (from n : ℕ) → (n < from) ⊎ (n < n) → n < from
+past_end from n e = ⊎_elim (λ (h : n < from). h) (λ (h : n < n). absurd (omega arith)) e
 
 pub returns-in_default : goal.returns-in_default
 returns-in_default g c =
     let past : length c.args.offsets.now ≤ c.args.number + 1 =
-    elim c.in_default.branch [ in_default-via-in-Some+then-get-lt2 w ↦ grind (arith, c.get.ensures.lookup) | in_default-via-in_default w ↦ omega (arith, none_from c.args.number (length c.args.offsets.now) (length c.args.offsets.now) (rw w.in_default.is at c.get.ensures.lookup).0 refl) ] in
+    elim c.in_default.branch [ in_default-via-in-Some+then-get-lt2 w ↦ grind (arith, c.get.ensures.lookup) | in_default-via-in_default w ↦ omega (arith, past_end c.args.number (length c.args.offsets.now) (rw w.in_default.is at c.get.ensures.lookup).0) ] in
     sym (tape_past c.args.events.now c.args.offsets.now c.args.number past)
 
 pub returns : goal.returns
