@@ -1,13 +1,13 @@
 -- Events of a list that are alike to a given one.
-use Rattle.std.specs.Prelude.{◌≡◌, ℕ, ◌<◌, Bool, true, false, ◌||◌, ◌↔◌, List, [], ◌∷◌, length, slice_index_or}
+use Rattle.std.specs.Prelude.{◌≡◌, ℕ, ◌<◌, Bool, true, ◌↔◌, List, length, slice_index_or}
+use Rattle.std.specs.List.{list_any}
 use Rattle.event.specs.declared.order.Order.{Order}
 use Rattle.event.specs.declared.order.Order.TheVariants.{Alike}
 use Rattle.event.specs.Orders.{is_alike}
 
 -- whether a list has an event alike to e
 abbrev pub holds_alike : {K : Type 0} → (K → K → Order) → K → List K → Bool
-holds_alike order e [] = false
-holds_alike order e (x ∷ xs) = is_alike (order x e) || holds_alike order e xs
+holds_alike order e list = list_any (λ x. is_alike (order x e)) list
 
 -- some place of a list has an event alike to e
 abbrev pub SomewhereAlike : {K : Type 0} → (K → K → Order) → K → List K → Type 0

@@ -1,5 +1,6 @@
 -- The support of a pattern: tape by tape, and under a longer pattern.
-use Rattle.std.proofs.Common.{◌≡◌, ℕ, ◌+◌, ◌<◌, ◌≤◌, Bool, true, false, cond, List, [], ◌∷◌, ◌++◌, length, get_or, drop, sym, refl, ap, ◌∙◌, arith}
+use Rattle.std.specs.List.{filter, range_with_len}
+use Rattle.std.proofs.Common.{◌≡◌, ℕ, zero, suc, ◌+◌, ◌<◌, ◌≤◌, Bool, true, false, cond, List, [], ◌∷◌, ◌++◌, length, get_or, drop, sym, refl, ap, ◌∙◌, arith}
 use Rattle.std.proofs.lemmas.List.{at_drop_more, at_drop_all}
 use Rattle.std.proofs.lemmas.Bool.{false≢true}
 use Rattle.event.specs.declared.order.Order.{Order}
@@ -34,10 +35,28 @@ module _ {K : Type 0} (order : K → K → Order) where
   support_falls = record { begins = begins order; falls = falls; bounded = bounded }
 
   -- one turn, and the end
-  pub support_more : (tapes : List (List K)) (pattern : List K) (i : ℕ) (tape : List K) → i < length tapes → tape ≡ get_or tapes i [] → support order (drop i tapes) pattern ≡ cond (includes order tape pattern) 1 0 + support order (drop (i + 1) tapes) pattern
+  support_more : (tapes : List (List K)) (pattern : List K) (i : ℕ) (tape : List K) → i < length tapes → tape ≡ get_or tapes i [] → support order (drop i tapes) pattern ≡ cond (includes order tape pattern) 1 0 + support order (drop (i + 1) tapes) pattern
   support_more tapes pattern i tape h is =
       at_drop_more (λ (ts : List (List K)). support order ts pattern) tapes i [] h
       ∙ ap (λ (t : List K). cond (includes order t pattern) 1 0 + support order (drop (i + 1) tapes) pattern) (sym is)
 
-  pub support_all : (tapes : List (List K)) (pattern : List K) (i : ℕ) → length tapes ≤ i → support order (drop i tapes) pattern ≡ 0
+  support_all : (tapes : List (List K)) (pattern : List K) (i : ℕ) → length tapes ≤ i → support order (drop i tapes) pattern ≡ 0
   support_all tapes pattern i h = at_drop_all (λ (ts : List (List K)). support order ts pattern) tapes i h
+
+  -- the count over the numbers of the tapes
+  module _ (tapes : List (List K)) (pattern : List K) where
+    abbrev including : ℕ → ℕ → List ℕ
+    including i n = filter (λ number. includes order (get_or tapes number []) pattern) (range_with_len i n)
+
+    support_from : (i n : ℕ) → i + n ≡ length tapes → length (including i n) ≡ support order (drop i tapes) pattern
+    support_from i zero h = sym (support_all tapes pattern i (omega arith))
+    support_from i (suc n) h =
+        by_test (includes order (get_or tapes i []) pattern) (support_from (i + 1) n (omega arith))
+        ∙ sym (support_more tapes pattern i (get_or tapes i []) (omega arith) refl)
+      where
+        by_test : (t : Bool) → length (including (i + 1) n) ≡ support order (drop (i + 1) tapes) pattern → length (cond t (i ∷ including (i + 1) n) (including (i + 1) n)) ≡ cond t 1 0 + support order (drop (i + 1) tapes) pattern
+        by_test true e = omega arith
+        by_test false e = omega arith
+
+    pub support_counted : (n : ℕ) → n ≡ length tapes → length (including 0 n) ≡ support order tapes pattern
+    support_counted n h = support_from 0 n (omega arith)

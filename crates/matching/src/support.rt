@@ -15,13 +15,9 @@ fn count_tapes<K: Kind>(events: &[K], offsets: &[u32], pattern: &[K]) -> u32
     requires { length offsets.now ≤ 513 }
     ensures { result ≡ support K.Kind.order (tapes events.now offsets.now) pattern.now }
 {
-    let mut count = 0;
-    for number in 0..offsets.len().saturating_sub(1) {
-        if tape_includes(tape_at(events, offsets, number), pattern) {
-            count += 1;
-        }
-    }
-    count
+    (0..offsets.len().saturating_sub(1))
+        .filter(|number| tape_includes(tape_at(events, offsets, *number), pattern))
+        .count() as u32
 }
 
 /// The support of a pattern in a bundle: how many tapes include it. SIZE if there are too many tapes or events, then OFFSETS if an offset is wrong or there are none.

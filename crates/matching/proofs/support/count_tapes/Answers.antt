@@ -1,28 +1,17 @@
-use Rattle.std.proofs.Common.{◌≡◌, ℕ, Bool, true, false, cond, ap, arith}
+use Rattle.std.proofs.Common.{[], get_or, rules, ◌∙◌, arith}
+use borrow.Author.Tests.{tests}
+use Rattle.std.proofs.lemmas.Iterator.{YieldsList-from_range}
+use Rattle.std.proofs.lemmas.Iterator.Consumers.{count_from_yields_List, YieldsList-from_filter}
 use Rattle.bundle.specs.Tapes.{tapes}
 use Rattle.bundle.proofs.Cuts.{length_tapes}
 use Rattle.matching.specs.Inclusion.{includes}
-use Rattle.matching.proofs.Counting.{support_more, support_all}
+use Rattle.matching.proofs.Counting.{support_counted}
 use Rattle.matching.proofs.support.count_tapes.Goals as goal
-use Rattle.matching.proofs.support.count_tapes.Goals.{then-tape_includes, else-tape_includes}
-
-pub loop-number-preserved : goal.loop-number-preserved
-loop-number-preserved g c =
-    let events = c.args.events.now in
-    let offsets = c.args.offsets.now in
-    let tape = c.tape_at.result.now in
-    let n = length_tapes events offsets in
-    let more = support_more g.K.Kind.order (tapes events offsets) c.args.pattern.now c.loop-number.number tape (omega arith) c.tape_at.ensures in
-    let one = λ (t : Bool) (e : t ≡ includes g.K.Kind.order tape c.args.pattern.now). ap (λ (b : Bool). cond {A = ℕ} b 1 0) e in
-    elim c.if-tape_includes.branch [
-      | then-tape_includes w ↦ (omega (arith, w.count-is), omega (arith, w.count-is, one true w.if-tape_includes.ensures))
-      | else-tape_includes w ↦ (omega (arith, w.count-is), omega (arith, w.count-is, one false w.if-tape_includes.ensures))
-    ]
 
 pub returns : goal.returns
 returns g c =
-    let events = c.args.events.now in
-    let offsets = c.args.offsets.now in
-    let n = length_tapes events offsets in
-    let all = support_all g.K.Kind.order (tapes events offsets) c.args.pattern.now c.loop-number.number (omega arith) in
-    omega arith
+    let all = tapes c.args.events.now c.args.offsets.now in
+    let pattern = c.args.pattern.now in
+    let n = length_tapes c.args.events.now c.args.offsets.now in
+    count_from_yields_List c.filter.result c.count.result c.count.ensures.ran (YieldsList-from_filter _ (λ number. includes g.K.Kind.order (get_or all number []) pattern) (YieldsList-from_range 0 c.saturating_sub.result c.saturating_sub.result c.filter.ensures.source (omega arith)) c.filter.ensures.closure (λ x b q k. search (rules, tests)))
+    ∙ support_counted g.K.Kind.order all pattern c.saturating_sub.result (omega arith)
