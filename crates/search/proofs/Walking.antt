@@ -3,7 +3,8 @@ use Rattle.std.proofs.Common.{◌≡◌, ℕ, zero, suc, ◌+◌, ◌<◌, Bool,
 use Rattle.std.proofs.lemmas.List.{take-take, take_more_set, get_or-take}
 use Rattle.std.proofs.lemmas.Bool.{both_ways}
 use Rattle.event.specs.declared.order.Order.{Order}
-use Rattle.bundle.specs.Tapes.{tapes}
+use Rattle.bundle.specs.declared.tape.Tapes.{Tapes}
+use Rattle.bundle.specs.Tapes.{all_tapes}
 use Rattle.filter.specs.Filters.{NoneAfter}
 use Rattle.matching.specs.Picks.{picked, Within}
 use Rattle.matching.specs.Support.{support}
@@ -106,8 +107,7 @@ module _ {K : Type 0} where
   pub same_more : (first second third : Walk K) → SameRows first second → SameRows second third → SameRows first third
   same_more first second third a b =
       record {
-        events = b.events ∙ a.events;
-        offsets = b.offsets ∙ a.offsets;
+        tapes = b.tapes ∙ a.tapes;
         lexicon = b.lexicon ∙ a.lexicon;
         longest = b.longest ∙ a.longest;
       }
@@ -115,13 +115,9 @@ module _ {K : Type 0} where
   module _ (before after : Walk K) (same : SameRows before after) where
     pub same_support : (order : K → K → Order) → support_of order after ≡ support_of order before
     same_support order =
-        let over : List K → List ℕ → List K → List ℕ → ℕ = λ es os ks p. support order (tapes es os) (picked ks p) in
-        let e : after.trail.events.now ≡ before.trail.events.now = ap (λ x. x.now) same.events in
-        let o : after.trail.offsets.now ≡ before.trail.offsets.now = ap (λ x. x.now) same.offsets in
+        let over : Tapes K → List K → List ℕ → ℕ = λ ts ks p. support order (all_tapes ts) (picked ks p) in
         let k : lexicon_of after ≡ lexicon_of before = ap (λ x. x.now) same.lexicon in
-        ap (λ (es : List K). over es after.trail.offsets.now (lexicon_of after)) e
-        ∙ ap (λ (os : List ℕ). over before.trail.events.now os (lexicon_of after)) o
-        ∙ ap (over before.trail.events.now before.trail.offsets.now) k
+        ap (λ (ts : Tapes K). over ts (lexicon_of after)) same.tapes ∙ ap (over before.trail.tapes) k
 
     pub same_wants : (wants : List K → Bool) → wants_of wants after ≡ wants_of wants before
     same_wants wants =

@@ -2,6 +2,7 @@
 use Rattle.std.specs.Prelude.{◌≡◌, ℕ, ◌<◌, ◌≤◌, Bool, List, [], ◌∷◌, ◌++◌, length, Some, None, Option}
 use Rattle.std.specs.Borrow.{Bor}
 use Rattle.event.specs.declared.order.Order.{Order}
+use Rattle.bundle.specs.declared.tape.Tapes.{Tapes}
 use Rattle.matching.specs.Picks.{picked}
 use Rattle.matching.specs.Support as matching
 use Rattle.trail.specs.Moves as moves
@@ -37,8 +38,7 @@ module _ {K : Type 0} where
 
   -- what a walk goes over stays, and its longest length
   pub record SameRows (before after : Walk K) : Type 0 where
-    pub events : after.trail.events ≡ before.trail.events
-    pub offsets : after.trail.offsets ≡ before.trail.offsets
+    pub tapes : after.trail.tapes ≡ before.trail.tapes
     pub lexicon : after.trail.lexicon ≡ before.trail.lexicon
     pub longest : after.longest ≡ before.longest
 
@@ -49,10 +49,9 @@ module _ {K : Type 0} where
     pub room : after.room ≡ before.room
     pub longest : after.longest ≡ before.longest
 
-  -- a walk that was opened over these rows stands at the empty list
-  pub record Opened (events : Bor (List K)) (offsets : Bor (List ℕ)) (lexicon : Bor (List K)) (longest : ℕ) (walk : Walk K) : Type 0 where
-    pub events_are : walk.trail.events ≡ events
-    pub offsets_are : walk.trail.offsets ≡ offsets
+  -- a walk that was opened over these tapes and this lexicon stands at the empty list
+  pub record Opened (tapes : Tapes K) (lexicon : Bor (List K)) (longest : ℕ) (walk : Walk K) : Type 0 where
+    pub tapes_are : walk.trail.tapes ≡ tapes
     pub lexicon_is : walk.trail.lexicon ≡ lexicon
     pub longest_is : walk.longest ≡ longest
     pub stands : at walk ≡ []

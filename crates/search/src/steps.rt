@@ -5,6 +5,7 @@ ghost use Rattle.trail.specs.Sound.{tapes_of};
 ghost use Rattle.search.specs.Walks.{at, lexicon_of, Sound, support_of, SameRows, Unmoved, Fresh, Opened, Deeper, DeeperMeans, Back};
 
 use crate::walk::Walk;
+use bundle::tape::Tapes;
 use event::kind::Kind;
 use std::alloc::{AllocError, Global};
 use trail::level::MOST_LENGTH;
@@ -16,23 +17,28 @@ impl<'a, K: Kind> Walk<'a, K> {
         ensures { IfOk result (λ walk. Fresh K.Kind.order walk) }
     {
         Ok(Walk {
-            trail: Trail::open(&[], &[0], &[]),
+            trail: Trail::open(
+                Tapes {
+                    events: &[],
+                    offsets: &[0],
+                },
+                &[],
+            ),
             room: vec![in heap; blank; MOST_LENGTH]?,
             longest: 0,
         })
     }
 
     /// Stands at the empty list, over these tapes and this lexicon. The caller has checked their sizes.
-    pub fn open(&mut self, events: &'a [K], offsets: &'a [u32], lexicon: &'a [K], longest: usize)
-        requires first { 1 ≤ length offsets.now }
-        requires tapes { length offsets.now ≤ 513 }
+    pub fn open(&mut self, tapes: Tapes<'a, K>, lexicon: &'a [K], longest: usize)
+        requires first { 1 ≤ length tapes.offsets.now }
+        requires tapes { length tapes.offsets.now ≤ 513 }
         requires words { length lexicon.now ≤ 1024 }
         requires short { longest ≤ 16 }
-        ensures opened { Opened events.entry offsets.entry lexicon.entry longest self.new }
+        ensures opened { Opened tapes.entry lexicon.entry longest self.new }
         ensures sound { Sound K.Kind.order self.new }
     {
-        // the rows stay three arguments, as the trail takes them
-        self.trail = Trail::open(events, offsets, lexicon);
+        self.trail = Trail::open(tapes, lexicon);
         self.longest = longest;
     }
 

@@ -97,7 +97,7 @@ module _ {K : Type 0} (order : K → K → Order) where
       record {
         levels = λ k le.
             let h : k ≤ before.depth = omega (arith, un.depth) in
-            rw (same.events, same.offsets, same.lexicon, un.bounds, un.list) (live_kept before after.rows un.rows k h ∙ sound.levels k h);
+            rw (same.tapes, same.lexicon, un.bounds, un.list) (live_kept before after.rows un.rows k h ∙ sound.levels k h);
       }
 
   -- the count of the list, and of the list with one more event
@@ -123,7 +123,7 @@ module _ {K : Type 0} (order : K → K → Order) where
           let h : k ≤ before.depth = omega (arith, deep.depth) in
           let p : k ≢ before.depth + 1 + 1 = omega arith in
           let q : k + 1 ≢ before.depth + 1 + 1 = omega arith in
-          rw (same.events, same.offsets, same.lexicon, deep.bounds, deep.list, get_or-set_other before.bounds (before.depth + 1 + 1) k, get_or-set_other before.bounds (before.depth + 1 + 1) (k + 1), take-set-le k before.list before.depth place) (live_kept before after.rows deep.rows k h ∙ sound.levels k h)
+          rw (same.tapes, same.lexicon, deep.bounds, deep.list, get_or-set_other before.bounds (before.depth + 1 + 1) k, get_or-set_other before.bounds (before.depth + 1 + 1) (k + 1), take-set-le k before.list before.depth place) (live_kept before after.rows deep.rows k h ∙ sound.levels k h)
 
       longer : list_of before ++ event ∷ [] ≡ list_of after
       longer =
@@ -138,4 +138,4 @@ module _ {K : Type 0} (order : K → K → Order) where
           ∙ ap (grown order (tapes_of before) event) (deepest before sound)
           ∙ sym (grows order (tapes_of before) (list_of before) event)
           ∙ ap (projection order (tapes_of before)) longer
-          ∙ rw (same.events, same.offsets)
+          ∙ rw same.tapes

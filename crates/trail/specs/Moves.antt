@@ -1,6 +1,7 @@
 -- What a trail stands at, and how its calls move it.
 use Rattle.std.specs.Prelude.{◌≡◌, ℕ, ◌+◌, ◌-◌, ◌<◌, ◌≤◌, Bool, true, false, List, [], ◌∷◌, ◌++◌, length, take, Some, None, Option, slice_index, slice_set}
 use Rattle.std.specs.Borrow.{Bor}
+use Rattle.bundle.specs.declared.tape.Tapes.{Tapes}
 use Rattle.trail.specs.declared.level.Head.{Head}
 use Rattle.trail.specs.declared.trail.Trail.{Trail}
 use Rattle.trail.specs.Levels.{end, Kept}
@@ -18,8 +19,7 @@ head_at trail k =
 module _ {K : Type 0} (before after : Trail K) where
   -- what a trail was opened over stays
   pub record Same : Type 0 where
-    pub events : after.events ≡ before.events
-    pub offsets : after.offsets ≡ before.offsets
+    pub tapes : after.tapes ≡ before.tapes
     pub lexicon : after.lexicon ≡ before.lexicon
 
   -- a trail stands where it stood: at most what lies behind its levels in the rows has changed
@@ -61,11 +61,10 @@ abbrev pub Back : {K : Type 0} → Trail K → Bool → Trail K → Type 0
 Back before true after = Shortened before after
 Back before false after = (before.depth ≡ 0) × (after ≡ before)
 
--- a trail that was opened over these rows stands at the empty list
-pub record Opened {K : Type 0} (events : Bor (List K)) (offsets : Bor (List ℕ)) (lexicon : Bor (List K)) (trail : Trail K) : Type 0 where
-  pub events_are : trail.events ≡ events
-  pub offsets_are : trail.offsets ≡ offsets
+-- a trail that was opened over these tapes and this lexicon stands at the empty list
+pub record Opened {K : Type 0} (tapes : Tapes K) (lexicon : Bor (List K)) (trail : Trail K) : Type 0 where
+  pub tapes_are : trail.tapes ≡ tapes
   pub lexicon_is : trail.lexicon ≡ lexicon
-  pub head : trail.head ≡ record { start = 0; count = length offsets.now - 1 }
+  pub head : trail.head ≡ record { start = 0; count = length tapes.offsets.now - 1 }
   pub depth : trail.depth ≡ 0
   pub stands : stands_at trail ≡ []

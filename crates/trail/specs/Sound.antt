@@ -1,7 +1,7 @@
 -- That the levels of a trail are the projections of its list, and what its answers then mean.
 use Rattle.std.specs.Prelude.{◌≡◌, ℕ, ◌<◌, ◌≤◌, List, [], ◌∷◌, ◌++◌, length, take, Some, None, Option}
 use Rattle.event.specs.declared.order.Order.{Order}
-use Rattle.bundle.specs.Tapes.{tapes}
+use Rattle.bundle.specs.Tapes.{all_tapes}
 use Rattle.matching.specs.Picks.{picked}
 use Rattle.matching.specs.Support.{support}
 use Rattle.trail.specs.declared.trail.Trail.{Trail}
@@ -11,7 +11,7 @@ use Rattle.trail.specs.Moves.{stands_at, head_at}
 
 -- the tapes that a trail goes over
 abbrev pub tapes_of : {K : Type 0} → Trail K → List (List K)
-tapes_of trail = tapes trail.events.now trail.offsets.now
+tapes_of trail = all_tapes trail.tapes
 
 -- the events of the list that a trail stands at
 abbrev pub list_of : {K : Type 0} → Trail K → List K

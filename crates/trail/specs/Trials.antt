@@ -4,14 +4,8 @@ use Rattle.std.specs.Bool.{then_some}
 use Rattle.event.specs.declared.order.Order.{Order}
 use Rattle.trail.specs.declared.level.Head.{Head}
 use Rattle.trail.specs.declared.level.Rows.{Rows}
-use Rattle.trail.specs.declared.tapes.Tapes.{Tapes}
-use Rattle.bundle.specs.Tapes.{tapes}
 use Rattle.trail.specs.Projection.{grown}
 use Rattle.trail.specs.Levels.{level, end}
-
--- the tapes of the two rows of a bundle
-abbrev pub all_tapes : {K : Type 0} → Tapes K → List (List K)
-all_tapes rows = tapes rows.events.now rows.offsets.now
 
 -- the level that an event gives behind a head's level
 abbrev pub next_level : {K : Type 0} → (K → K → Order) → List (List K) → K → Rows → Head → List (ℕ × ℕ)

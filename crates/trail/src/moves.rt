@@ -1,37 +1,35 @@
 ghost use Rattle.std.specs.Prelude.{◌≡◌, ℕ, ◌<◌, ◌≤◌, [], ◌∷◌, length, slice_index};
 ghost use Rattle.matching.specs.Support.{support};
 ghost use Rattle.trail.specs.Moves.{stands_at, Same, Unmoved, Deeper, Back, Opened};
-ghost use Rattle.trail.specs.Trials.{all_tapes};
 ghost use Rattle.trail.specs.Sound.{tapes_of, list_of, support_with, Sound, DeeperMeans};
 
 use crate::level::{Head, MOST_LENGTH, ROOM, Rows};
-use crate::tapes::Tapes;
 use crate::trail::Trail;
 use crate::trial::Trial;
+use bundle::tape::Tapes;
 use event::kind::Kind;
 
 impl<'a, K: Kind> Trail<'a, K> {
     /// Stands at the empty list, with every tape at its first place.
-    pub fn open(events: &'a [K], offsets: &'a [u32], lexicon: &'a [K]) -> Trail<'a, K>
-        requires some { 1 ≤ length offsets.now }
-        requires few { length offsets.now ≤ 513 }
-        ensures opened { Opened events.entry offsets.entry lexicon.entry result }
+    pub fn open(tapes: Tapes<'a, K>, lexicon: &'a [K]) -> Trail<'a, K>
+        requires some { 1 ≤ length tapes.offsets.now }
+        requires few { length tapes.offsets.now ≤ 513 }
+        ensures opened { Opened tapes.entry lexicon.entry result }
         ensures sound { Sound K.Kind.order result }
     {
-        let count = offsets.len() - 1;
-        let mut tapes = [0; ROOM];
-        let roots = &mut tapes[..count];
+        let count = tapes.offsets.len() - 1;
+        let mut numbers = [0; ROOM];
+        let roots = &mut numbers[..count];
         for (tape, root) in roots.iter_mut().enumerate() {
             *root = tape as u16;
         }
         let mut bounds = [0; MOST_LENGTH + 2];
         bounds[1] = count;
         Trail {
-            events,
-            offsets,
+            tapes,
             lexicon,
             rows: Rows {
-                tapes,
+                tapes: numbers,
                 places: [0; ROOM],
             },
             head: Head { start: 0, count },
@@ -52,9 +50,8 @@ impl<'a, K: Kind> Trail<'a, K> {
             return None;
         }
         let event = self.lexicon.get(place as usize)?;
-        let tapes = self.tapes();
         let mut trial = Trial::new(&mut self.head);
-        let count = trial.run(&mut self.rows, tapes, event, need)?;
+        let count = trial.run(&mut self.rows, self.tapes, event, need)?;
         trial.keep();
         self.list[self.depth] = place;
         self.depth += 1;
@@ -88,9 +85,8 @@ impl<'a, K: Kind> Trail<'a, K> {
         ensures means { Sound K.Kind.order self.old → result ≡ support_with K.Kind.order self.old (event.now ∷ []) }
         ensures sound { Sound K.Kind.order self.old → Sound K.Kind.order self.new }
     {
-        let tapes = self.tapes();
         let mut trial = Trial::new(&mut self.head);
-        trial.run(&mut self.rows, tapes, event, 0).unwrap_or(0)
+        trial.run(&mut self.rows, self.tapes, event, 0).unwrap_or(0)
     }
 
     /// The support of the list.
@@ -112,7 +108,8 @@ impl<'a, K: Kind> Trail<'a, K> {
 
     /// How many events the list has.
     pub fn depth(&self) -> usize
-        ensures { (result ≡ self.now.depth) × (result ≡ length (stands_at self.now)) }
+        ensures levels { result ≡ self.now.depth }
+        ensures list { result ≡ length (stands_at self.now) }
     {
         self.places().len()
     }
@@ -122,15 +119,5 @@ impl<'a, K: Kind> Trail<'a, K> {
         ensures { result ≡ self.now.lexicon }
     {
         self.lexicon
-    }
-
-    // The tapes that the trail goes over.
-    fn tapes(&self) -> Tapes<'a, K>
-        ensures { all_tapes result ≡ tapes_of self.now }
-    {
-        Tapes {
-            events: self.events,
-            offsets: self.offsets,
-        }
     }
 }

@@ -3,6 +3,7 @@ ghost use Rattle.bundle.specs.Tapes.{tapes};
 ghost use Rattle.matching.specs.Support.{support};
 
 use crate::trail::Trail;
+use bundle::tape::Tapes;
 use event::kind::Kind;
 
 // The support of one event in tapes that are overwritten as soon as no trail goes over them.
@@ -12,7 +13,7 @@ fn sample<'a, K: Kind>(events: &'a mut [K], offsets: &'a [u32], lexicon: &'a [K]
     requires few { length offsets.now ≤ 513 }
     ensures { result ≡ support K.Kind.order (tapes events.old offsets.now) (event.now ∷ []) }
 {
-    let mut trail = Trail::open(events, offsets, lexicon);
+    let mut trail = Trail::open(Tapes { events, offsets }, lexicon);
     let support = trail.try_event(event);
     events[0] = *event;
     support

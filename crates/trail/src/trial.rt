@@ -1,9 +1,11 @@
 ghost use Rattle.std.specs.Prelude.{◌≡◌, ◌+◌, ◌≤◌, length, IfSome};
+ghost use Rattle.bundle.specs.Tapes.{all_tapes};
 ghost use Rattle.trail.specs.Levels.{end, Kept};
-ghost use Rattle.trail.specs.Trials.{all_tapes, next_level, reaching, behind, Laid};
+ghost use Rattle.trail.specs.Trials.{next_level, reaching, behind, Laid};
 
 use crate::level::{Head, Rows};
-use crate::tapes::Tapes;
+use crate::tapes::next_place;
+use bundle::tape::Tapes;
 use event::kind::Kind;
 
 /// A trial has the head, which stands at the next level. However the trial ends, the head is put back, unless the trial is kept.
@@ -59,7 +61,7 @@ impl<'t> Trial<'t> {
                 return None;
             }
             let (tape, place) = rows.entry(at);
-            let Some(next) = tapes.next_place(tape as usize, place as usize, event) else {
+            let Some(next) = next_place(tapes, tape as usize, place as usize, event) else {
                 continue;
             };
             rows.lay(self.head.end(), tape, next);

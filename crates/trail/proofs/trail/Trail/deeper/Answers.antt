@@ -14,7 +14,7 @@ returns-in_err-count-clause-means g c =
     let trail = c.args.self.now in
     let event = c.in_ok-event.event.now in
     let place = c.args.place in
-    let tried = rw (c.tapes-tapes.ensures, c.new-trial.ensures.saved) at c.in_err-count.ensures.answer in
+    let tried = rw c.new-trial.ensures.saved at c.in_err-count.ensures.answer in
     rw c.from_residual-in_err-count.ensures
     (λ sound room known.
     let few = missed c.args.need _ tried in
@@ -50,7 +50,7 @@ returns-clause-means g c =
     let trail = c.args.self.now in
     let event = c.in_ok-event.event.now in
     let found = c.in_ok-event.ensures.lookup in
-    let tried = rw (c.tapes-tapes.ensures, c.new-trial.ensures.saved) at c.in_ok-count.ensures.answer in
+    let tried = rw c.new-trial.ensures.saved at c.in_ok-count.ensures.answer in
     λ sound. (reached c.args.need _ c.in_ok-count.count tried).1 ∙ counts_grown g.K.Kind.order trail sound event (picked trail.lexicon.now (c.args.place ∷ [])) (picked_event trail.lexicon.now c.args.place event found.3.0 found.1)
 
 pub returns-clause-sound : goal.returns-clause-sound
@@ -60,6 +60,6 @@ returns-clause-sound g c =
     let place = c.args.place in
     let found = c.in_ok-event.ensures.lookup in
     let one = picked_event trail.lexicon.now place event found.3.0 found.1 in
-    let tried = rw (c.tapes-tapes.ensures, c.new-trial.ensures.saved) at c.in_ok-count.ensures in
+    let tried = rw c.new-trial.ensures.saved at c.in_ok-count.ensures in
     let enough = reached c.args.need _ c.in_ok-count.count tried.answer in
     sound_deeper g.K.Kind.order trail _ place c.args.need c.in_ok-count.count event one (search rules) (deepened trail _ place c.args.need c.in_ok-count.count (omega arith) (search rules) found.3.0 (omega arith) (c.keep.ensures ∙ tried.moved) (search rules) refl refl tried.kept) tried.laid.1

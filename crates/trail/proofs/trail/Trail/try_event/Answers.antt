@@ -8,7 +8,7 @@ pub returns-clause-means : goal.returns-clause-means
 returns-clause-means g c =
     let trail = c.args.self.now in
     let event = c.args.event.now in
-    let tried = rw (c.tapes-tapes.ensures, c.new-trial.ensures.saved) at c.run.ensures.answer in
+    let tried = rw c.new-trial.ensures.saved at c.run.ensures.answer in
     λ sound.
     c.unwrap_or.ensures
     ∙ ap (λ (answer : Option ℕ). unwrap_or answer 0) (tried ∙ always _)

@@ -1,6 +1,7 @@
 use Rattle.std.proofs.Common.{ℕ, ◌-◌, List, [], ◌∷◌, ◌++◌, Some, None, sym, ap, ◌∙◌, append-nil, arith}
+use Rattle.bundle.specs.Tapes.{all_tapes}
 use Rattle.trail.specs.Levels.{end}
-use Rattle.trail.specs.Trials.{all_tapes, reaching}
+use Rattle.trail.specs.Trials.{reaching}
 use Rattle.trail.proofs.Growing.{kept_more, entries_more, grown_at, too_few, counted}
 use Rattle.trail.proofs.trial.Trial.run.Goals as goal
 

@@ -1,7 +1,7 @@
 use Rattle.std.proofs.Common.{◌≡◌, ◌+◌, ◌-◌, ◌≤◌}
+use Rattle.bundle.specs.Tapes.{all_tapes}
 use Rattle.trail.specs.Projection.{grown}
 use Rattle.trail.specs.Levels.{entries, level, Kept}
-use Rattle.trail.specs.Trials.{all_tapes}
 use Rattle.trail.proofs.trial.Trial.run.Given as goal
 
 abbrev pub invariant-loop-at : goal.invariant-loop-at
