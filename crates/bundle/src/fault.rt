@@ -24,6 +24,8 @@ pub enum BundleFault {
 }
 
 impl BundleFault {
+    // The faults of all layers are asked by the same two methods.
+
     /// The refusal that this fault is.
     pub fn refusal(&self) -> Refusal
         ensures { result ≡ refusal_of self.now }

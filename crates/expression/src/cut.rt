@@ -11,6 +11,8 @@ fn goes_on(byte: u8) -> bool
     byte.is_ascii_digit() || byte == b':' || byte.is_ascii_lowercase()
 }
 
+// These are asked of one byte each; a struct of the byte, its place and the label that is open would be made for one call.
+
 // Whether a label that is open goes on with a byte.
 fn stays_in(begun: Option<usize>, byte: u8) -> bool
     ensures { result ≡ stays_in begun byte }

@@ -36,7 +36,7 @@ fn mark_of<K: Kind>(bytes: &[u8]) -> Mark
     }
 }
 
-// What stands at the leaf that some bytes are.
+// What stands at the leaf that some bytes are. Not one function with `mark_of`: the two answer different things of the same bytes.
 fn leaf_of<K: Kind>(bytes: &[u8]) -> Option<Label<K>>
     ensures { result ≡ leaf_of K.Kind.labelled bytes.now }
 {

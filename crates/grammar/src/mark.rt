@@ -20,7 +20,7 @@ pub enum Mark {
     Plus,
     /// Once or not at all.
     Maybe,
-    /// Anything else, which fits nowhere.
+    /// Anything else, which fits nowhere; a mark of its own and no `None`, as a fault counts the marks.
     Other,
 }
 

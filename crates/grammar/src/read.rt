@@ -12,7 +12,7 @@ use std::alloc::Global;
 /// The most brackets that may be open.
 pub const MOST_OPEN: u8 = 16;
 
-// Each reads a part from the next mark on, where so many brackets are open, and returns its node.
+// Each reads a part from the next mark on, where so many brackets are open, and returns its node. How many is a parameter and no field: it belongs to one call, and need not be put back.
 // They call each other in a cycle, so they go over plain marks.
 impl Reader<'_> {
     // Reads an expression: terms, parted by bars.

@@ -31,7 +31,7 @@ pub enum Piece<'a, K> {
 }
 
 impl Word {
-    // The word's text.
+    // The word's text, as bytes: a `Display` would print through a formatter what is written into a row.
     pub(crate) fn text(self) -> &'static [u8]
         ensures { result.now ≡ word_text self }
     {

@@ -74,6 +74,8 @@ fn refused_source(refusal: Refusal) -> Source
 }
 
 impl ListerFault {
+    // The faults of all layers are asked by the same two methods.
+
     /// The refusal that this fault is.
     pub fn refusal(&self) -> Refusal
         ensures { result ≡ refusal_of self.now }
