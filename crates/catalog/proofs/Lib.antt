@@ -1,3 +1,1 @@
-pub mod Filed
-pub mod Front
 pub mod Reading

@@ -1,6 +1,5 @@
-// What the lister answers to an input: the query line and the bundle read, and the list.
+// What the lister will list: all patterns of a bundle whose support reaches the threshold.
 #![tactic(auto)]
 
-pub mod input;
 pub mod list;
 mod patterns;

@@ -1,230 +1,48 @@
-ghost use Rattle.std.specs.Prelude.{◌≡◌, ◌≤◌, true, [], ◌∷◌, length, is_some, is_ok, IfOk, None};
-ghost use Rattle.bundle.specs.Bundles.{tapes_in, events_in, offsets_in, events_of, file_fault, read_fault, filled};
-ghost use Rattle.catalog.specs.declared.list.ListError.TheVariants as catalog;
-ghost use Rattle.matching.specs.Learning as learning;
-ghost use Rattle.matching.specs.Learning.{learned, learn_refusal};
-ghost use Rattle.law.specs.Openings.{opening_refusal};
-ghost use Rattle.law.specs.Transcripts.{Opened};
-ghost use Rattle.session.specs.Sessions.{opening_of, Stands};
-ghost use Rattle.catalog.specs.Outcomes.{or_refused, or_session, front_of, Outcome};
-ghost use Rattle.catalog.specs.Replies.{opening_for, then_session, fault_in, reading_fault, patterns_text, kind_text, list_text, kind_for, bundle_part, requested, reply_text};
+ghost use Rattle.std.specs.Prelude.{◌≡◌, is_some, IfOk};
+ghost use Rattle.catalog.specs.Replies.{patterns, fault_in, reply_text};
 
-use crate::input::{FileKind, bundle_part, file_kind, query_line, read_request};
 use crate::patterns::append_opened;
-use bundle::reader::{MOST_EVENTS, MOST_TAPES, read_bundle};
 use event::kind::Kind;
-use event::scanner::Scanner;
-use event::station::Station;
-use matching::learning::learn;
-use matching::lexicon::MOST_LEXICON;
 use query::line::Query;
-use report::fault::ListerFault;
-use report::output::{Line, append};
+use reply::answer;
+use reply::answer::Reply;
+use reply::contents::{Contents, ListError};
+use reply::rows::Rows;
 use session::opening::Opening;
 use session::session::Session;
 use std::alloc::{AllocError, Global};
 
-/// Why there is no list: a refusal, or want of memory.
-#[derive(Clone, Copy)]
-pub enum ListError {
-    Refused(ListerFault),
-    Memory,
-}
+/// The list of all patterns whose support reaches the threshold.
+pub struct Patterns;
 
-impl From<ListerFault> for ListError {
-    ghost from_gives = { λ e r. r ≡ catalog.Refused e };
+impl Contents for Patterns {
+    ghost listed = { patterns };
 
-    fn from(fault: ListerFault) -> ListError {
-        ListError::Refused(fault)
+    fn append<K: Kind>(
+        heap: Global,
+        query: &Query,
+        rows: &Rows<'_, K>,
+        blank: K,
+        text: &mut Vec<u8>,
+    ) -> Result<(), ListError> {
+        let opening = Opening {
+            events: rows.events,
+            offsets: rows.offsets,
+            lexicon: rows.lexicon,
+            threshold: query.threshold,
+            longest: query.longest,
+        };
+        let mut session = Session::new(blank, heap)?;
+        session.open(opening)?;
+        append_opened(heap, query, &opening, &mut session, text)?;
+        Ok(())
     }
-}
-
-impl From<AllocError> for ListError {
-    ghost from_gives = { λ _ r. r ≡ catalog.Memory };
-
-    fn from(_error: AllocError) -> ListError {
-        ListError::Memory
-    }
-}
-
-// Reads the bundle into two rows; its fault becomes the lister's.
-fn read_tapes<K: Kind>(
-    file: &[u8],
-    offsets: &mut [u32],
-    events: &mut [K],
-) -> Result<(usize, usize), ListerFault>
-    ensures answer { result ≡ or_refused (read_fault K.Kind.NUMBER K.Kind.WIDTH K.Kind.stands file.now (length offsets.old) (length events.old)) (tapes_in file.now, events_in file.now) }
-    ensures offsets_after { offsets.new ≡ filled (read_fault K.Kind.NUMBER K.Kind.WIDTH K.Kind.stands file.now (length offsets.old) (length events.old)) (offsets_in file.now) offsets.old }
-    ensures events_after { events.new ≡ filled (read_fault K.Kind.NUMBER K.Kind.WIDTH K.Kind.stands file.now (length offsets.old) (length events.old)) (events_of K.Kind.WIDTH K.Kind.stands file.now) events.old }
-{
-    let counts = read_bundle(file, offsets, events)?;
-    Ok(counts)
-}
-
-// Learns the lexicon into a row; a refusal becomes the lister's fault.
-fn learn_lexicon<K: Kind>(events: &[K], lexicon: &mut [K]) -> Result<usize, ListerFault>
-    ensures answer { result ≡ or_session (learn_refusal K.Kind.order events.now (length lexicon.old)) (length (learned K.Kind.order events.now)) }
-    ensures after { lexicon.new ≡ learning.filled (learn_refusal K.Kind.order events.now (length lexicon.old)) (learned K.Kind.order events.now) lexicon.old }
-{
-    let count = learn(events, lexicon)?;
-    Ok(count)
-}
-
-// Opens a session; a refusal becomes the lister's fault.
-fn open_session<'a, K: Kind>(
-    session: &mut Session<'a, K>,
-    opening: Opening<'a, K>,
-) -> Result<(), ListerFault>
-    ensures answer { result ≡ or_session (opening_refusal K.Kind.order (opening_of opening.entry)) tt }
-    ensures stands { is_ok result ≡ true → Stands K.Kind.order session.old [] → Stands K.Kind.order session.new (Opened (opening_of opening.entry) ∷ []) }
-{
-    session.open(opening)?;
-    Ok(())
-}
-
-// Appends the list of a query and a bundle, with the lexicon that is given.
-fn append_rows<'a, K: Kind>(
-    heap: Global,
-    query: &Query,
-    offsets: &'a [u32],
-    events: &'a [K],
-    lexicon: &'a [K],
-    blank: K,
-    text: &mut Vec<u8>,
-) -> Result<(), ListError>
-    ensures { Outcome (then_session None (opening_refusal K.Kind.order (opening_for query.now offsets.now events.now lexicon.now))) text.old.items (patterns_text K.Kind.order K.Kind.label (opening_for query.now offsets.now events.now lexicon.now)) text.new.items result }
-{
-    let opening = Opening {
-        events,
-        offsets,
-        lexicon,
-        threshold: query.threshold,
-        longest: query.longest,
-    };
-    let mut session = Session::new(blank, heap)?;
-    open_session(&mut session, opening)?;
-    append_opened(heap, query, &opening, &mut session, text)?;
-    Ok(())
-}
-
-// Appends the list of a query and a bundle file of a kind, read into rows that have room for every bundle and lexicon.
-fn append_read<K: Kind>(
-    heap: Global,
-    query: &Query,
-    file: &[u8],
-    offsets: &mut [u32],
-    events: &mut [K],
-    lexicon: &mut [K],
-    blank: K,
-    text: &mut Vec<u8>,
-) -> Result<(), ListError>
-    requires offset_room { 513 ≤ length offsets.old }
-    requires event_room { 65535 ≤ length events.old }
-    requires lexicon_room { 1024 ≤ length lexicon.old }
-    ensures { Outcome (reading_fault K.Kind.NUMBER K.Kind.WIDTH K.Kind.stands K.Kind.order query.now file.now) text.old.items (kind_text K.Kind.WIDTH K.Kind.stands K.Kind.order K.Kind.label query.now file.now) text.new.items result }
-{
-    let (tape_count, event_count) = read_tapes(file, offsets, events)?;
-    let word_count = learn_lexicon(&events[0..event_count], lexicon)?;
-    append_rows(
-        heap,
-        query,
-        &offsets[0..tape_count + 1],
-        &events[0..event_count],
-        &lexicon[0..word_count],
-        blank,
-        text,
-    )
-}
-
-// The same, with rows of its own.
-fn append_file<K: Kind>(
-    heap: Global,
-    query: &Query,
-    file: &[u8],
-    blank: K,
-    text: &mut Vec<u8>,
-) -> Result<(), ListError>
-    ensures { Outcome (reading_fault K.Kind.NUMBER K.Kind.WIDTH K.Kind.stands K.Kind.order query.now file.now) text.old.items (kind_text K.Kind.WIDTH K.Kind.stands K.Kind.order K.Kind.label query.now file.now) text.new.items result }
-{
-    let mut offsets = Vec::new(heap);
-    offsets.resize(MOST_TAPES + 1, 0u32)?;
-    let mut events = Vec::new(heap);
-    events.resize(MOST_EVENTS, blank)?;
-    let mut lexicon = Vec::new(heap);
-    lexicon.resize(MOST_LEXICON, blank)?;
-    append_read(
-        heap,
-        query,
-        file,
-        offsets.as_mut_slice(),
-        events.as_mut_slice(),
-        lexicon.as_mut_slice(),
-        blank,
-        text,
-    )
-}
-
-// The query and the kind of event; a fault of either becomes the lister's.
-fn read_front(input: &[u8]) -> Result<(Query, FileKind), ListerFault>
-    ensures { result ≡ front_of (requested input.now) (kind_for (bundle_part input.now)) }
-{
-    let query = read_request(input)?;
-    let kind = file_kind(bundle_part(input))?;
-    Ok((query, kind))
-}
-
-// Appends the list that an input asks for.
-fn append_list(heap: Global, input: &[u8], text: &mut Vec<u8>) -> Result<(), ListError>
-    ensures { Outcome (fault_in input.now) text.old.items (list_text (requested input.now) (kind_for (bundle_part input.now)) (bundle_part input.now)) text.new.items result }
-{
-    let (query, kind) = read_front(input)?;
-    let file = bundle_part(input);
-    match kind {
-        FileKind::Scanner => {
-            let blank = Scanner { code: 0 };
-            append_file::<Scanner>(heap, &query, file, blank, text)
-        }
-        FileKind::Station => {
-            let blank = Station {
-                action: 1,
-                outcome: 0,
-                station: 0,
-            };
-            append_file::<Station>(heap, &query, file, blank, text)
-        }
-    }
-}
-
-/// What the lister answers: the text that it writes, and whether that is a refusal.
-#[derive(Drop)]
-pub struct Reply {
-    pub text: Vec<u8>,
-    pub refused: bool,
 }
 
 /// The answer to an input: its list, or the line of the refusal.
 pub fn reply_to(heap: Global, input: &[u8]) -> Result<Reply, AllocError>
-    ensures { IfOk result (λ x. (x.text.items ≡ reply_text input.now) × (x.refused ≡ is_some (fault_in input.now))) }
+    ensures text { IfOk result (λ x. x.text.items ≡ reply_text input.now) }
+    ensures refused { IfOk result (λ x. x.refused ≡ is_some (fault_in input.now)) }
 {
-    let mut text = Vec::new(heap);
-    match append_list(heap, input, &mut text) {
-        Ok(()) => Ok(Reply {
-            text,
-            refused: false,
-        }),
-        Err(ListError::Refused(fault)) => {
-            let mut row = Vec::new(heap);
-            let line: Line<'_, Scanner> = Line::Refused {
-                fault: &fault,
-                query: query_line(input),
-                bundle: bundle_part(input),
-            };
-            append::<Scanner>(&line, &mut row, &mut text)?;
-            Ok(Reply {
-                text,
-                refused: true,
-            })
-        }
-        Err(ListError::Memory) => Err(AllocError),
-    }
+    answer::reply_to::<Patterns>(heap, input)
 }

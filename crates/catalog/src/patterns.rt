@@ -23,8 +23,7 @@ fn spell<K: Kind>(lexicon: &[K], places: &[u16], pattern: &mut Vec<K>) -> Result
 {
     pattern.clear();
     for place in places {
-        let at = *place as usize;
-        pattern.extend_from_slice(&lexicon[at..at + 1])?;
+        pattern.push(lexicon[usize::from(*place)])?;
     }
     Ok(())
 }
@@ -65,14 +64,8 @@ fn append_patterns<'a, K: Kind>(
 {
     let mut places = [0; MOST_LENGTH];
     let mut pattern = Vec::new(heap);
-    loop {
-        // the session is open and no pattern is longer than the row, so this is not refused
-        let Ok(found) = session.next(&All, &mut places) else {
-            return Ok(());
-        };
-        let Some((length, support)) = found else {
-            return Ok(());
-        };
+    // the session is open and no pattern is longer than the row, so this is not refused
+    while let Ok(Some((length, support))) = session.next(&All, &mut places) {
         append_pattern(
             opening.lexicon,
             &places[0..length],
@@ -82,6 +75,7 @@ fn append_patterns<'a, K: Kind>(
             text,
         )?;
     }
+    Ok(())
 }
 
 /// Appends the list of a session that was just opened: what was read, the patterns, and how many they are.

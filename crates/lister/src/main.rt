@@ -1,8 +1,8 @@
 // The lister: a query line and a bundle file on standard input, the list on standard output.
 #![tactic(auto)]
 
-use listing::input::MOST_INPUT;
 use listing::list::reply_to;
+use reply::input::MOST_INPUT;
 use std::alloc::AllocError;
 use std::io;
 use std::io::{Read, Write};

@@ -1,3 +1,1 @@
-pub mod Appending
-pub mod Filed
-pub mod Front
+mod Appending

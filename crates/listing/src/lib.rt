@@ -1,8 +1,4 @@
-// What the lister reads and writes: the query line, the faults of all layers as one, and the lines.
+// What the lister lists: each event of a bundle's lexicon with its support.
 #![tactic(auto)]
 
-pub mod fault;
-pub mod input;
 pub mod list;
-pub mod output;
-pub mod text;

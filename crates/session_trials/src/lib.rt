@@ -1,6 +1,10 @@
-// Tests of the session and of the list of all patterns by examples, in a crate of their own.
+// Tests of the session and of the lists by examples, in a crate of their own.
 #![tactic(auto)]
 
+#[cfg(test)]
+mod answers;
+#[cfg(test)]
+mod listings;
 #[cfg(test)]
 mod replies;
 #[cfg(test)]

@@ -9,8 +9,6 @@ mod labels;
 mod matches;
 #[cfg(test)]
 mod questions;
-#[cfg(test)]
-mod replies;
 
 /// The worked bundle: scanner tapes 10 20 10 30; 10 30 40; 20 10; an empty one; 30 10 20.
 pub fn worked_bundle() -> &'static [u8; 56] {

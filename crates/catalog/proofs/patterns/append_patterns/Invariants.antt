@@ -6,11 +6,11 @@ use Rattle.catalog.specs.Readings.{ReadSoFar}
 use Rattle.catalog.proofs.patterns.append_patterns.Given as goal
 
 -- what was returned so far was appended; the row of places is as long as it was
-abbrev pub invariant-loop-found : goal.invariant-loop-found
-invariant-loop-found g l =
+abbrev pub invariant-loop-length : goal.invariant-loop-length
+invariant-loop-length g l =
     ReadSoFar g.K.Kind.order g.K.Kind.label (opening_of l.opening) l.session (vec_items l.initial.text) (vec_items l.text)
     × (length l.places ≡ 16)
 
 -- how many patterns come after the one at which the session stands
-abbrev pub decreases-loop-found : goal.decreases-loop-found
-decreases-loop-found g l = remaining (length (opening_of l.opening).lexicon) (opening_of l.opening).longest (at l.session.walk)
+abbrev pub decreases-loop-length : goal.decreases-loop-length
+decreases-loop-length g l = remaining (length (opening_of l.opening).lexicon) (opening_of l.opening).longest (at l.session.walk)

@@ -1,9 +1,0 @@
-use Rattle.std.proofs.Common.{◌≡◌, ◌-◌, length, vec_items, vec_len}
-use Rattle.listing.specs.Lines.{text_of}
-use Rattle.listing.proofs.output.append.Given as goal
-
-abbrev pub invariant-loop-count : goal.invariant-loop-count
-invariant-loop-count g l = vec_items l.text ≡ vec_items l.initial.text
-
-abbrev pub decreases-loop-count : goal.decreases-loop-count
-decreases-loop-count g l = length (text_of g.K.Kind.label l.line) - vec_len l.row

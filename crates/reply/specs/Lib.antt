@@ -1,0 +1,4 @@
+pub mod Inputs
+pub mod Listed
+pub mod Outcomes
+pub mod Replies

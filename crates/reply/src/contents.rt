@@ -1,0 +1,69 @@
+ghost use Rattle.std.specs.Prelude.{◌≡◌, None};
+ghost use Rattle.query.specs.declared.line.QueryFault.TheVariants as query;
+ghost use Rattle.report.specs.declared.fault.ListerFault.TheVariants as lister;
+ghost use Rattle.reply.specs.declared.contents.ListError.TheVariants as reply;
+ghost use Rattle.reply.specs.Listed.{Listed, then_session};
+ghost use Rattle.reply.specs.Outcomes.{Outcome};
+
+use crate::rows::Rows;
+use bundle::fault::BundleFault;
+use event::kind::Kind;
+use event::refusal::Refusal;
+use query::line::{Query, QueryFault};
+use report::fault::ListerFault;
+use std::alloc::{AllocError, Global};
+
+/// Why there is no list: a refusal, or want of memory.
+#[derive(Clone, Copy)]
+pub enum ListError {
+    Refused(ListerFault),
+    Memory,
+}
+
+impl From<QueryFault> for ListError {
+    ghost from_gives = { λ e r. r ≡ reply.Refused (lister.Query e) };
+
+    fn from(fault: QueryFault) -> ListError {
+        ListError::Refused(fault.into())
+    }
+}
+
+impl From<BundleFault> for ListError {
+    ghost from_gives = { λ e r. r ≡ reply.Refused (lister.Bundle e) };
+
+    fn from(fault: BundleFault) -> ListError {
+        ListError::Refused(fault.into())
+    }
+}
+
+impl From<Refusal> for ListError {
+    ghost from_gives = { λ e r. r ≡ reply.Refused (lister.Session e) };
+
+    fn from(refusal: Refusal) -> ListError {
+        ListError::Refused(refusal.into())
+    }
+}
+
+impl From<AllocError> for ListError {
+    ghost from_gives = { λ _ r. r ≡ reply.Memory };
+
+    fn from(_error: AllocError) -> ListError {
+        ListError::Memory
+    }
+}
+
+/// What is listed of a query and a bundle, of whichever kind its events are.
+pub trait Contents {
+    // Why it is refused, if it is, and its lines.
+    ghost listed: { Listed };
+
+    /// Appends the lines to a text; a refused list leaves the text. The session of a list is made with the blank event, any one.
+    fn append<K: Kind>(
+        heap: Global,
+        query: &Query,
+        rows: &Rows<'_, K>,
+        blank: K,
+        text: &mut Vec<u8>,
+    ) -> Result<(), ListError>
+        ensures { Outcome (then_session None (listed.refusal K.Kind.order query.now rows.now.offsets.now rows.now.events.now rows.now.lexicon.now)) text.old.items (listed.lines K.Kind.order K.Kind.label query.now rows.now.offsets.now rows.now.events.now rows.now.lexicon.now) text.new.items result };
+}

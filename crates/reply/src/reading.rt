@@ -1,0 +1,36 @@
+ghost use Rattle.std.specs.Prelude.{◌≡◌};
+ghost use Rattle.reply.specs.Outcomes.{Outcome};
+ghost use Rattle.reply.specs.Replies.{reading_fault, kind_text};
+
+use crate::contents::{Contents, ListError};
+use crate::rows::Rows;
+use bundle::reader::{MOST_EVENTS, MOST_TAPES, read_bundle};
+use event::kind::Kind;
+use matching::learning::learn;
+use matching::lexicon::MOST_LEXICON;
+use query::line::Query;
+use std::alloc::Global;
+
+/// Appends what is listed of a query and a bundle file of a kind, read into rows that have room for every bundle and lexicon.
+pub(crate) fn append_file<C: Contents, K: Kind>(
+    heap: Global,
+    query: &Query,
+    file: &[u8],
+    blank: K,
+    text: &mut Vec<u8>,
+) -> Result<(), ListError>
+    ensures { Outcome (reading_fault C.listed K.Kind.NUMBER K.Kind.WIDTH K.Kind.stands K.Kind.order query.now file.now) text.old.items (kind_text C.listed K.Kind.WIDTH K.Kind.stands K.Kind.order K.Kind.label query.now file.now) text.new.items result }
+{
+    let mut offsets = vec![in heap; 0u32; MOST_TAPES + 1]?;
+    let mut events = vec![in heap; blank; MOST_EVENTS]?;
+    let mut lexicon = vec![in heap; blank; MOST_LEXICON]?;
+    let (tapes, count) = read_bundle(file, &mut offsets, &mut events)?;
+    let events = &events[..count];
+    let words = learn(events, &mut lexicon)?;
+    let rows = Rows {
+        offsets: &offsets[..tapes + 1],
+        events,
+        lexicon: &lexicon[..words],
+    };
+    C::append(heap, query, &rows, blank, text)
+}
