@@ -8,6 +8,7 @@ use reply::answer;
 use reply::answer::Reply;
 use reply::contents::{Contents, ListError};
 use reply::rows::Rows;
+use report::output::Page;
 use session::opening::Opening;
 use session::session::Session;
 use std::alloc::{AllocError, Global};
@@ -23,7 +24,7 @@ impl Contents for Patterns {
         query: &Query,
         rows: &Rows<'_, K>,
         blank: K,
-        text: &mut Vec<u8>,
+        page: &mut Page,
     ) -> Result<(), ListError> {
         let opening = Opening {
             events: rows.events,
@@ -34,7 +35,7 @@ impl Contents for Patterns {
         };
         let mut session = Session::new(blank, heap)?;
         session.open(opening)?;
-        append_opened(heap, query, &opening, &mut session, text)?;
+        append_opened(heap, query, &opening, &mut session, page)?;
         Ok(())
     }
 }

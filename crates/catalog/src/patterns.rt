@@ -10,7 +10,7 @@ use event::kind::Kind;
 use event::scanner::Scanner;
 use filter::all::All;
 use query::line::Query;
-use report::output::{Line, append};
+use report::output::{Line, Page};
 use session::opening::Opening;
 use session::session::Session;
 use std::alloc::{AllocError, Global};
@@ -34,21 +34,16 @@ fn append_pattern<K: Kind>(
     places: &[u16],
     support: u32,
     pattern: &mut Vec<K>,
-    row: &mut Vec<u8>,
-    text: &mut Vec<u8>,
+    page: &mut Page,
 ) -> Result<(), AllocError>
     requires { Within places.now (length lexicon.now) }
-    ensures { OnOk result (text.new.items ≡ text.old.items ++ pattern_text K.Kind.label support (picked lexicon.now places.now)) }
+    ensures { OnOk result (page.new ≡ page.old ++ pattern_text K.Kind.label support (picked lexicon.now places.now)) }
 {
     spell(lexicon, places, pattern)?;
-    append(
-        &Line::Pattern {
-            support,
-            pattern: pattern.as_slice(),
-        },
-        row,
-        text,
-    )
+    page.append(&Line::Pattern {
+        support,
+        pattern: pattern.as_slice(),
+    })
 }
 
 // Appends each pattern that a session, just opened, hands out until END.
@@ -56,11 +51,10 @@ fn append_patterns<'a, K: Kind>(
     heap: Global,
     opening: &Opening<'a, K>,
     session: &mut Session<'a, K>,
-    row: &mut Vec<u8>,
-    text: &mut Vec<u8>,
+    page: &mut Page,
 ) -> Result<(), AllocError>
     requires { Stands K.Kind.order session.old (Opened (opening_of opening.now) ∷ []) }
-    ensures { OnOk result (ReadToEnd K.Kind.order K.Kind.label (opening_of opening.now) session.new text.old.items text.new.items) }
+    ensures { OnOk result (ReadToEnd K.Kind.order K.Kind.label (opening_of opening.now) session.new page.old page.new) }
 {
     let mut places = [0; MOST_LENGTH];
     let mut pattern = Vec::new(heap);
@@ -71,8 +65,7 @@ fn append_patterns<'a, K: Kind>(
             &places[0..length],
             support,
             &mut pattern,
-            row,
-            text,
+            page,
         )?;
     }
     Ok(())
@@ -84,22 +77,21 @@ pub(crate) fn append_opened<'a, K: Kind>(
     query: &Query,
     opening: &Opening<'a, K>,
     session: &mut Session<'a, K>,
-    text: &mut Vec<u8>,
+    page: &mut Page,
 ) -> Result<(), AllocError>
     requires { Stands K.Kind.order session.old (Opened (opening_of opening.now) ∷ []) }
-    ensures { OnOk result (text.new.items ≡ text.old.items ++ (head_text (length (opening_of opening.now).offsets - 1) (length (opening_of opening.now).events) query.now.threshold query.now.longest ++ session_text K.Kind.order K.Kind.label (opening_of opening.now))) }
+    ensures { OnOk result (page.new ≡ page.old ++ (head_text (length (opening_of opening.now).offsets - 1) (length (opening_of opening.now).events) query.now.threshold query.now.longest ++ session_text K.Kind.order K.Kind.label (opening_of opening.now))) }
 {
-    let mut row = Vec::new(heap);
     let head: Line<'_, K> = Line::Head {
         tapes: opening.offsets.len().saturating_sub(1),
         events: opening.events.len(),
         query,
     };
-    append(&head, &mut row, text)?;
-    append_patterns(heap, opening, session, &mut row, text)?;
+    page.append(&head)?;
+    append_patterns(heap, opening, session, page)?;
     let Ok((_, count)) = session.tell() else {
         return Ok(());
     };
     let end: Line<'static, Scanner> = Line::End { count };
-    append::<Scanner>(&end, &mut row, text)
+    page.append(&end)
 }

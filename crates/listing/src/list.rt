@@ -8,7 +8,7 @@ use reply::answer;
 use reply::answer::Reply;
 use reply::contents::{Contents, ListError};
 use reply::rows::Rows;
-use report::output::{Line, append};
+use report::output::{Line, Page};
 use std::alloc::{AllocError, Global};
 
 /// The list of each event of a lexicon with its support.
@@ -18,22 +18,21 @@ impl Contents for Supports {
     ghost listed = { supports };
 
     fn append<K: Kind>(
-        heap: Global,
+        _heap: Global,
         query: &Query,
         rows: &Rows<'_, K>,
         _blank: K,
-        text: &mut Vec<u8>,
+        page: &mut Page,
     ) -> Result<(), ListError> {
-        let mut row = Vec::new(heap);
         let head: Line<'_, K> = Line::Head {
             tapes: rows.offsets.len().saturating_sub(1),
             events: rows.events.len(),
             query,
         };
-        append(&head, &mut row, text)?;
+        page.append(&head)?;
         for pattern in rows.lexicon.chunks(1) {
             let support = support_of(rows.events, rows.offsets, pattern)?;
-            append(&Line::Pattern { support, pattern }, &mut row, text)?;
+            page.append(&Line::Pattern { support, pattern })?;
         }
         Ok(())
     }

@@ -8,7 +8,7 @@ use crate::input::{FileKind, bundle_part, file_kind, query_line, read_request};
 use crate::reading::append_file;
 use event::scanner::Scanner;
 use event::station::Station;
-use report::output::{Line, append};
+use report::output::{Line, Page};
 use std::alloc::{AllocError, Global};
 
 // Some event of each kind, which fills the rows that a bundle is read into.
@@ -21,14 +21,14 @@ const STATION: Station = Station {
 };
 
 // Appends what is listed of an input.
-fn append_list<C: Contents>(heap: Global, input: &[u8], text: &mut Vec<u8>) -> Result<(), ListError>
-    ensures { Outcome (fault_in C.listed input.now) text.old.items (list_text C.listed (requested input.now) (kind_for (bundle_part input.now)) (bundle_part input.now)) text.new.items result }
+fn append_list<C: Contents>(heap: Global, input: &[u8], page: &mut Page) -> Result<(), ListError>
+    ensures { Outcome (fault_in C.listed input.now) page.old (list_text C.listed (requested input.now) (kind_for (bundle_part input.now)) (bundle_part input.now)) page.new result }
 {
     let query = read_request(input)?;
     let file = bundle_part(input);
     match file_kind(file)? {
-        FileKind::Scanner => append_file::<C, Scanner>(heap, &query, file, SCANNER, text),
-        FileKind::Station => append_file::<C, Station>(heap, &query, file, STATION, text),
+        FileKind::Scanner => append_file::<C, Scanner>(heap, &query, file, SCANNER, page),
+        FileKind::Station => append_file::<C, Station>(heap, &query, file, STATION, page),
     }
 }
 
@@ -45,8 +45,8 @@ pub fn reply_to<C: Contents>(heap: Global, input: &[u8]) -> Result<Reply, AllocE
     ensures text { IfOk result (λ x. x.text.items ≡ reply_text C.listed input.now) }
     ensures refused { IfOk result (λ x. x.refused ≡ is_some (fault_in C.listed input.now)) }
 {
-    let mut text = Vec::new(heap);
-    let refused = match append_list::<C>(heap, input, &mut text) {
+    let mut page = Page::new(heap);
+    let refused = match append_list::<C>(heap, input, &mut page) {
         Ok(()) => false,
         Err(ListError::Refused(fault)) => {
             let line: Line<'_, Scanner> = Line::Refused {
@@ -54,10 +54,13 @@ pub fn reply_to<C: Contents>(heap: Global, input: &[u8]) -> Result<Reply, AllocE
                 query: query_line(input),
                 bundle: bundle_part(input),
             };
-            append(&line, &mut Vec::new(heap), &mut text)?;
+            page.append(&line)?;
             true
         }
         Err(ListError::Memory) => return Err(AllocError),
     };
-    Ok(Reply { text, refused })
+    Ok(Reply {
+        text: page.into_text(),
+        refused,
+    })
 }

@@ -11,6 +11,7 @@ use event::kind::Kind;
 use event::refusal::Refusal;
 use query::line::{Query, QueryFault};
 use report::fault::ListerFault;
+use report::output::Page;
 use std::alloc::{AllocError, Global};
 
 /// Why there is no list: a refusal, or want of memory.
@@ -57,13 +58,13 @@ pub trait Contents {
     // Why it is refused, if it is, and its lines.
     ghost listed: { Listed };
 
-    /// Appends the lines to a text; a refused list leaves the text. The session of a list is made with the blank event, any one.
+    /// Appends the lines to a page; a refused list leaves it. The session of a list is made with the blank event, any one.
     fn append<K: Kind>(
         heap: Global,
         query: &Query,
         rows: &Rows<'_, K>,
         blank: K,
-        text: &mut Vec<u8>,
+        page: &mut Page,
     ) -> Result<(), ListError>
-        ensures { Outcome (then_session None (listed.refusal K.Kind.order query.now rows.now.offsets.now rows.now.events.now rows.now.lexicon.now)) text.old.items (listed.lines K.Kind.order K.Kind.label query.now rows.now.offsets.now rows.now.events.now rows.now.lexicon.now) text.new.items result };
+        ensures { Outcome (then_session None (listed.refusal K.Kind.order query.now rows.now.offsets.now rows.now.events.now rows.now.lexicon.now)) page.old (listed.lines K.Kind.order K.Kind.label query.now rows.now.offsets.now rows.now.events.now rows.now.lexicon.now) page.new result };
 }

@@ -9,6 +9,7 @@ use event::kind::Kind;
 use matching::learning::learn;
 use matching::lexicon::MOST_LEXICON;
 use query::line::Query;
+use report::output::Page;
 use std::alloc::Global;
 
 /// Appends what is listed of a query and a bundle file of a kind, read into rows that have room for every bundle and lexicon.
@@ -17,9 +18,9 @@ pub(crate) fn append_file<C: Contents, K: Kind>(
     query: &Query,
     file: &[u8],
     blank: K,
-    text: &mut Vec<u8>,
+    page: &mut Page,
 ) -> Result<(), ListError>
-    ensures { Outcome (reading_fault C.listed K.Kind.NUMBER K.Kind.WIDTH K.Kind.stands K.Kind.order query.now file.now) text.old.items (kind_text C.listed K.Kind.WIDTH K.Kind.stands K.Kind.order K.Kind.label query.now file.now) text.new.items result }
+    ensures { Outcome (reading_fault C.listed K.Kind.NUMBER K.Kind.WIDTH K.Kind.stands K.Kind.order query.now file.now) page.old (kind_text C.listed K.Kind.WIDTH K.Kind.stands K.Kind.order K.Kind.label query.now file.now) page.new result }
 {
     let mut offsets = vec![in heap; 0u32; MOST_TAPES + 1]?;
     let mut events = vec![in heap; blank; MOST_EVENTS]?;
@@ -32,5 +33,5 @@ pub(crate) fn append_file<C: Contents, K: Kind>(
         events,
         lexicon: &lexicon[..words],
     };
-    C::append(heap, query, &rows, blank, text)
+    C::append(heap, query, &rows, blank, page)
 }

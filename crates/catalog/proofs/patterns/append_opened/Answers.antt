@@ -1,4 +1,4 @@
-use Rattle.std.proofs.Common.{◌≡◌, ℕ, ◌-◌, min, List, ◌++◌, length, Ok, vec_items, Result, ap, ◌∙◌, append_assoc}
+use Rattle.std.proofs.Common.{◌≡◌, ℕ, ◌-◌, min, List, ◌++◌, length, Ok, Result, ap, ◌∙◌, append_assoc}
 use Rattle.std.specs.List.{flat_map}
 use Rattle.std.proofs.lemmas.Result.{IfOk-weaker}
 use Rattle.event.specs.declared.refusal.Refusal.{Refusal}
@@ -25,12 +25,12 @@ returns g c =
     let order = g.K.Kind.order in
     let label = g.K.Kind.label in
     let o = opening_of c.args.opening.now in
-    let was = vec_items c.args.text.now in
+    let was = c.args.page.now in
     let query = c.args.query.now in
     let s = c.append_patterns.new.session in
-    let first = vec_items c.append.new.text in
-    let second = vec_items c.append_patterns.new.text in
-    let third = vec_items c.append-2.new.text in
+    let first = c.append.new.self in
+    let second = c.append_patterns.new.page in
+    let third = c.append-2.new.self in
     let tapes = length o.offsets - 1 in
     let count = min (length (listed order o)) most_counted in
     let head = λ (n : ℕ). head_text n (length o.events) query.threshold query.longest in
@@ -48,4 +48,4 @@ returns-in_default g c =
     let read = c.in_ok-append_patterns.ensures in
     absurd
     (c.in_default.not-Ok _
-    (whole_told g.K.Kind.order (opening_of c.args.opening.now) g.K.Kind.label s (vec_items c.append.new.text) (vec_items c.append_patterns.new.text) read c.tell.result c.tell.ensures.answer))
+    (whole_told g.K.Kind.order (opening_of c.args.opening.now) g.K.Kind.label s (c.append.new.self) (c.append_patterns.new.page) read c.tell.result c.tell.ensures.answer))

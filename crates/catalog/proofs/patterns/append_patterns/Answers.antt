@@ -1,4 +1,4 @@
-use Rattle.std.proofs.Common.{◌≡◌, ℕ, ◌-◌, List, ◌++◌, length, take, Some, None, Ok, vec_items, Option, Result, sym, ap, ◌∙◌, subst, arith}
+use Rattle.std.proofs.Common.{◌≡◌, ℕ, ◌-◌, List, ◌++◌, length, take, Some, None, Ok, Option, Result, sym, ap, ◌∙◌, subst, arith}
 use Rattle.event.specs.declared.order.Order.{Order}
 use Rattle.event.specs.declared.refusal.Refusal.{Refusal}
 use Rattle.matching.specs.Picks.{picked, Within}
@@ -49,11 +49,11 @@ loop-length-preserved g c =
     let n = c.in-Ok-Some.length in
     let row = c.next.new.row in
     let support = c.in-Ok-Some.support in
-    let is = vec_items c.loop-length.text in
+    let is = c.loop-length.page in
     let e : n - 0 ≡ n = omega arith in
     let st = hands_out order o s x.transcript x.stands x.reads t m (take n row) support (handed_out g (goal.at.loop-length-preserved g c).In-Ok-Some x.transcript x.stands) in
     let more = c.in_ok-append_pattern.ensures ∙ ap (λ (k : ℕ). is ++ pattern_text label support (picked o.lexicon (take k row))) e in
-    (read_more order o label s t (vec_items c.args.text.now) is (vec_items c.append_pattern.new.text) x m (take n row) support st more, omega (arith, c.loop-length.invariant.1, c.next.auto.row))
+    (read_more order o label s t c.args.page.now is c.append_pattern.new.page x m (take n row) support st more, omega (arith, c.loop-length.invariant.1, c.next.auto.row))
 
 pub returns : goal.returns
 returns g c =
@@ -67,7 +67,7 @@ returns g c =
     elim c.match-next.branch [
       | in_default w ↦ (
           let none : w.in_default.field-0 ≡ None = cc in
-          read_to_end order o g.K.Kind.label s t (vec_items c.args.text.now) (vec_items c.loop-length.text) x.0 m (subst extends (w.in_default.is ∙ ap Ok none) c.next.ensures.extends)
+          read_to_end order o g.K.Kind.label s t c.args.page.now c.loop-length.page x.0 m (subst extends (w.in_default.is ∙ ap Ok none) c.next.ensures.extends)
           )
       | in_default-2 w ↦ absurd (never_refused order o s x.0.transcript x.0.stands x.0.reads t m (omega (arith, x.1)) w.in_default.field-0 (subst extends w.in_default.is c.next.ensures.extends x.0.transcript x.0.stands))
     ]

@@ -1,4 +1,4 @@
-use Rattle.std.proofs.Common.{◌≡◌, length, vec_items}
+use Rattle.std.proofs.Common.{◌≡◌, length}
 use Rattle.law.specs.Lists.{remaining}
 use Rattle.search.specs.Walks.{at}
 use Rattle.session.specs.Sessions.{opening_of}
@@ -8,7 +8,7 @@ use Rattle.catalog.proofs.patterns.append_patterns.Given as goal
 -- what was returned so far was appended; the row of places is as long as it was
 abbrev pub invariant-loop-length : goal.invariant-loop-length
 invariant-loop-length g l =
-    ReadSoFar g.K.Kind.order g.K.Kind.label (opening_of l.opening) l.session (vec_items l.initial.text) (vec_items l.text)
+    ReadSoFar g.K.Kind.order g.K.Kind.label (opening_of l.opening) l.session l.initial.page l.page
     × (length l.places ≡ 16)
 
 -- how many patterns come after the one at which the session stands

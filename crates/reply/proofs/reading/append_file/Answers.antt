@@ -1,4 +1,4 @@
-use Rattle.std.proofs.Common.{◌≡◌, ◌+◌, ◌≤◌, List, length, take, None, vec_items, sym, refl, ap, ◌∙◌, arith}
+use Rattle.std.proofs.Common.{◌≡◌, ◌+◌, ◌≤◌, List, length, take, None, sym, refl, ap, ◌∙◌, arith}
 use Rattle.std.proofs.lemmas.List.{with_items_is, length-take-le}
 use Rattle.std.proofs.lemmas.Result.{err_from_is_err_and}
 use Rattle.bundle.specs.Bundles.{offsets_in, events_of}
@@ -99,4 +99,4 @@ returns g c =
     (ap (take (c.in_ok-tapes.tapes + 1)) (lent_offsets g (goal.at.returns g c).After-deref-2) ∙ r.offsets)
     (events g a)
     (ap (take c.in_ok-words.words) (lent_lexicon g d (events g a)) ∙ w.1)
-    (vec_items c.args.text.now) (vec_items c.append.new.text) c.append.result c.append.ensures
+    c.args.page.now c.append.new.page c.append.result c.append.ensures

@@ -1,4 +1,4 @@
-use Rattle.std.proofs.Common.{◌≡◌, ◌++◌, vec_items}
+use Rattle.std.proofs.Common.{◌≡◌, ◌++◌}
 use Rattle.std.specs.List.{flat_map}
 use Rattle.std.specs.Slice.Iter.{chunks_rest, chunks_size}
 use Rattle.bundle.specs.Tapes.{tapes}
@@ -9,5 +9,5 @@ use Rattle.listing.proofs.list.SupportsContents.append.Given as goal
 abbrev pub invariant-loop-pattern : goal.invariant-loop-pattern
 invariant-loop-pattern g l =
     let line = event_text g.K.Kind.order g.K.Kind.label (tapes l.rows.events.now l.rows.offsets.now) in
-    (vec_items l.text ++ flat_map line (chunks_rest l.pattern-iterator) ≡ vec_items l.initial.text ++ flat_map line l.rows.lexicon.now)
+    (l.page ++ flat_map line (chunks_rest l.pattern-iterator) ≡ l.initial.page ++ flat_map line l.rows.lexicon.now)
     × (chunks_size l.pattern-iterator ≡ 1)
