@@ -50,7 +50,7 @@ fn main() {
             &format!("support of {length} events"),
             race(
                 200,
-                || { black_box(proved::support(black_box(&events), &offsets, &pattern)); },
+                || { let _ = black_box(proved::support(black_box(&events), &offsets, &pattern)); },
                 || { black_box(plain::support(black_box(&events), &offsets, &pattern)); },
             ),
         );
@@ -65,7 +65,7 @@ fn main() {
             name,
             race(
                 50,
-                || { black_box(proved::learn(black_box(events), &mut row)); },
+                || { let _ = black_box(proved::learn(black_box(events), &mut row)); },
                 || { black_box(plain::learn(black_box(events), &mut other)); },
             ),
         );

@@ -25,7 +25,7 @@ impl Length {
     pub fn new(fewest: usize, most: usize) -> Result<Length, Refusal>
         ensures { result_map_both (λ l. (l.fewest, l.most)) (λ e. e) result ≡ limits fewest most }
     {
-        if fewest < 1 || most < fewest || MOST_EVENTS < most {
+        if !(1..=most).contains(&fewest) || MOST_EVENTS < most {
             return Err(Refusal::Length);
         }
         Ok(Length { fewest, most })
@@ -40,7 +40,7 @@ impl<K: Kind> Filter<K> for Length {
     ghost fruitless = { λ f. length_stands f.fewest f.most };
 
     fn wanted(&self, list: &[K]) -> bool {
-        self.fewest <= list.len() && list.len() <= self.most
+        (self.fewest..=self.most).contains(&list.len())
     }
 
     fn is_barren(&self, list: &[K]) -> bool {

@@ -9,7 +9,7 @@ use Rattle.event.specs.declared.refusal.Refusal.{Refusal}
 use Rattle.matching.specs.Checks.{or_refused}
 use Rattle.matching.specs.Learning.{with_event, learned_from, learned, learn_refusal, filled}
 use Rattle.matching.specs.Lexicons.{Rising}
-use Rattle.matching.specs.Picks.{picked, Within, Placed, Gathered}
+use Rattle.matching.specs.Picks.{picked, Within, Placed}
 use Rattle.matching.proofs.Classes.{rising_with, length_learned}
 use Rattle.matching.proofs.Ordered.{Ordered}
 use Rattle.matching.proofs.Picking.{length_picked, picked_inserted, within_inserted}
@@ -26,9 +26,8 @@ module _ {K : Type 0} (order : K → K → Order) (events : List K) (most : ℕ)
   gather_none =
       record { few = omega arith; within = λ k h. absurd (omega arith); rising = λ i j d a b. absurd (omega arith); rest = refl }
 
-  pub gather_all : (count i : ℕ) → Gathering order events most places count i → length events ≤ i → Gathered order events most places (Some count)
-  gather_all count i s h =
-      (s.few, (s.within, sym (at_drop_all (learned_from order (picked events (take count places))) events i h) ∙ s.rest))
+  pub gather_all : (count i : ℕ) → Gathering order events most places count i → length events ≤ i → picked events (take count places) ≡ learned order events
+  gather_all count i s h = sym (at_drop_all (learned_from order (picked events (take count places))) events i h) ∙ s.rest
 
   -- one turn, at the event x
   module _ (count i : ℕ) (x : K) (s : Gathering order events most places count i) (room : most ≤ length places) (inside : i < length events) (is : x ≡ get_or events i x) where
@@ -52,7 +51,7 @@ module _ {K : Type 0} (order : K → K → Order) (events : List K) (most : ℕ)
       pub place_within : at ≤ count
       place_within = omega (arith, count_picked, placed.0)
 
-      pub gather_full : most ≤ count → Gathered order events most places None
+      pub gather_full : most ≤ count → most < length (learned order events)
       gather_full h =
           let a = length_learned order laws (with_event order x lexicon) (drop (i + 1) events) in
           let b = ap length on in
@@ -72,23 +71,21 @@ module _ {K : Type 0} (order : K → K → Order) (events : List K) (most : ℕ)
           }
 
 -- what was gathered, laid at a row's front
-module _ {K : Type 0} (order : K → K → Order) (events row : List K) (places : List ℕ) (count most : ℕ) (few : length events ≤ 65535) (most-is : most ≡ min (length row) 1024) (held : most ≤ length places) (found : Gathered order events most places (Some count)) where
+module _ {K : Type 0} (order : K → K → Order) (events row lexicon : List K) (count most : ℕ) (few : length events ≤ 65535) (most-is : most ≡ min (length row) 1024) (enough : count ≤ most) (counted : length lexicon ≡ count) (found : lexicon ≡ learned order events) where
   all_counted : count ≡ length (learned order events)
-  all_counted =
-      sym (length-take-le count places (omega (arith, found.0))) ∙ sym (length_picked events (take count places) found.1.0) ∙ ap length found.1.1
+  all_counted = sym counted ∙ ap length found
 
   no_refusal : learn_refusal order events (length row) ≡ None
   no_refusal =
       let a = all_counted in
-      let b : length (learned order events) ≤ length row = omega (arith, found.0) in
-      let c : length (learned order events) ≤ 1024 = omega (arith, found.0) in
+      let b : length (learned order events) ≤ length row = omega arith in
+      let c : length (learned order events) ≤ 1024 = omega arith in
       grind (arith, nat_tests)
 
   pub learn_answer : Ok count ≡ or_refused (learn_refusal order events (length row)) (length (learned order events))
   learn_answer =
       ap (λ (n : ℕ). Ok n) all_counted ∙ sym (ap (λ (o : Option Refusal). or_refused o (length (learned order events))) no_refusal)
 
-  pub learn_after : (after : List K) → after ≡ picked events (take count places) ++ drop (length (take count places)) row → after ≡ filled (learn_refusal order events (length row)) (learned order events) row
+  pub learn_after : (after : List K) → after ≡ lexicon ++ drop count row → after ≡ filled (learn_refusal order events (length row)) (learned order events) row
   learn_after after e =
-      let l : length (take count places) ≡ length (learned order events) = length-take-le count places (omega (arith, found.0)) ∙ all_counted in
-      e ∙ ap (λ (n : ℕ). picked events (take count places) ++ drop n row) l ∙ ap (λ (xs : List K). xs ++ drop (length (learned order events)) row) found.1.1 ∙ sym (ap (λ (o : Option Refusal). filled o (learned order events) row) no_refusal)
+      e ∙ ap (λ (n : ℕ). lexicon ++ drop n row) all_counted ∙ ap (λ (xs : List K). xs ++ drop (length (learned order events)) row) found ∙ sym (ap (λ (o : Option Refusal). filled o (learned order events) row) no_refusal)

@@ -3,7 +3,7 @@ use Rattle.std.specs.Prelude.{◌≡◌, ℕ, ◌<◌, ◌≤◌, false, List, [
 use Rattle.std.specs.List.{insert}
 use Rattle.event.specs.declared.order.Order.{Order}
 use Rattle.event.specs.declared.order.Order.TheVariants.{Before}
-use Rattle.matching.specs.Learning.{with_event, learned}
+use Rattle.matching.specs.Learning.{with_event}
 use Rattle.event.specs.Orders.{is_before}
 
 -- the events at some places
@@ -27,8 +27,3 @@ pub record Stands {K : Type 0} (order : K → K → Order) (lexicon : List K) (e
 abbrev pub Placed : {K : Type 0} → (K → K → Order) → List K → K → Option ℕ → Type 0
 Placed order lexicon event (Some place) = (place ≤ length lexicon) × (with_event order event lexicon ≡ insert lexicon place event)
 Placed order lexicon event None = with_event order event lexicon ≡ lexicon
-
--- how many places at a row's front pick the learned lexicon, or none where it has more events than so many
-abbrev pub Gathered : {K : Type 0} → (K → K → Order) → List K → ℕ → List ℕ → Option ℕ → Type 0
-Gathered order events most places (Some count) = (count ≤ most) × (Within (take count places) (length events) × (picked events (take count places) ≡ learned order events))
-Gathered order events most places None = most < length (learned order events)

@@ -1,10 +1,10 @@
-ghost use Rattle.std.specs.Prelude.{◌≡◌, ℕ, ◌+◌, ◌<◌, ◌≤◌, ◌++◌, length, take, drop, slice_index_or};
+ghost use Rattle.std.specs.Prelude.{◌≡◌, ℕ, ◌+◌, ◌<◌, ◌≤◌, ◌++◌, length, take, drop, slice_index_or, MatchOption};
 ghost use Rattle.std.specs.List.{insert};
 ghost use Rattle.event.specs.Orders.{is_before};
 ghost use Rattle.matching.specs.Checks.{or_refused};
 ghost use Rattle.matching.specs.Learning.{learned, learn_refusal, filled, LearningStands};
 ghost use Rattle.matching.specs.Lexicons.{Rising};
-ghost use Rattle.matching.specs.Picks.{picked, Within, Stands, Placed, Gathered};
+ghost use Rattle.matching.specs.Picks.{picked, Within, Stands, Placed};
 
 use crate::lexicon::MOST_LEXICON;
 use bundle::reader::MOST_EVENTS;
@@ -47,7 +47,7 @@ impl<K: Kind> Picks<'_, K> {
             0
         };
         // an answer cannot be foretold, so it is shifted and added, which needs no branch
-        // (partition_point and binary_search_by were tried: more than twice as slow as plain Rust)
+        // (partition_point and binary_search_by were tried: they take more than twice as long as plain Rust)
         while power > 0 {
             power -= 1;
             let half = 1 << power;
@@ -92,11 +92,11 @@ fn insert_place(places: &mut [u16], count: usize, at: usize, place: u16)
     places[at..=count].rotate_right(1);
 }
 
-// Gathers at a row's front the places of the first events of their classes, in rising order; none if there are more than so many.
-fn gather<K: Kind>(events: &[K], most: usize, places: &mut [u16]) -> Option<usize>
+// Gathers the first events of their classes, in rising order, with their places at a row's front; none if there are more than so many.
+fn gather<'e, K: Kind>(events: &'e [K], most: usize, places: &'e mut [u16]) -> Option<Picks<'e, K>>
     requires few { length events.now ≤ 65535 }
     requires room { most ≤ length places.old }
-    ensures { Gathered K.Kind.order events.now most places.new result }
+    ensures { MatchOption result (most < length (learned K.Kind.order events.now)) (λ picks. (length picks.places.now ≤ most) × (picked picks.events.now picks.places.now ≡ learned K.Kind.order events.now)) }
 {
     let mut count = 0;
     for (i, event) in events.iter().enumerate() {
@@ -113,7 +113,10 @@ fn gather<K: Kind>(events: &[K], most: usize, places: &mut [u16]) -> Option<usiz
         insert_place(places, count, at, i as u16);
         count += 1;
     }
-    Some(count)
+    Some(Picks {
+        events,
+        places: &places[..count],
+    })
 }
 
 /// Learns a lexicon from events: writes the first event of each class in rising order at a row's front, and returns how many. SIZE if there are too many events, then ROOM if there are more classes than the row or a lexicon has places for; the row then stays.
@@ -124,16 +127,13 @@ pub fn learn<K: Kind>(events: &[K], row: &mut [K]) -> Result<usize, Refusal>
     if events.len() > MOST_EVENTS {
         return Err(Refusal::Size);
     }
+    // a row of its own, so that memory is never wanting
     let mut places = [0; MOST_LEXICON];
-    let Some(count) = gather(events, row.len().min(MOST_LEXICON), &mut places) else {
+    let Some(picks) = gather(events, row.len().min(MOST_LEXICON), &mut places) else {
         return Err(Refusal::Room);
     };
-    Picks {
-        events,
-        places: &places[..count],
-    }
-    .lay(row);
-    Ok(count)
+    picks.lay(row);
+    Ok(picks.places.len())
 }
 
 /// What is learned rises strictly, has exactly one alike event for each event, and each of its events is the first of its class.
