@@ -1,6 +1,6 @@
 -- The events of the list at which a walk stands, the rows that it keeps, and what its trail's answers mean for lists of places.
-use Rattle.std.proofs.Common.{◌≡◌, ℕ, zero, suc, ◌+◌, ◌<◌, Bool, true, false, List, [], ◌∷◌, ◌++◌, length, get_or, take, drop, set, sym, refl, ap, ◌∙◌, subst, append_assoc, append-nil, arith, length-append, take-append-drop, length-take, take_at, Bor}
-use Rattle.std.proofs.lemmas.List.{take-take, take_more_set, get_or-take}
+use Rattle.std.proofs.Common.{◌≡◌, ℕ, zero, suc, ◌+◌, ◌-◌, ◌<◌, Bool, true, false, List, [], ◌∷◌, ◌++◌, length, get_or, take, drop, set, sym, refl, ap, ◌∙◌, subst, append_assoc, append-nil, arith, length-append, take-append-drop, length-take, take_at, Bor}
+use Rattle.std.proofs.lemmas.List.{take-take, take_all, take_more, take_more_set, get_or-take}
 use Rattle.std.proofs.lemmas.Bool.{both_ways}
 use Rattle.event.specs.declared.order.Order.{Order}
 use Rattle.bundle.specs.declared.tape.Tapes.{Tapes}
@@ -101,6 +101,17 @@ module _ {K : Type 0} (before after : Trail K) (same : Same before after) where
   spelled_back b room back spelled =
       let f = back_front b back in
       spelled_front after.lexicon.now room (stands_at before) (stands_at after) f.0 f.1 (within_trail after) (spelled_same room (stands_at before) spelled)
+
+-- a trail whose places p have a last one went back from it
+pub back_last : {K : Type 0} (before after : Trail K) (b : Bool) (p : List ℕ) (x : ℕ) → Back before b after → p ≡ stands_at before → length p ≡ before.depth → 0 < length p → x ≡ get_or p (length p - 1) x → stands_at before ≡ stands_at after ++ (x ∷ [])
+back_last before after true p x back places deep some is =
+    let end : after.depth ≡ length p - 1 = omega (arith, back.depth) in
+    sym places
+    ∙ sym (take_all (after.depth + 1) p (omega arith))
+    ∙ take_more p after.depth x (omega arith)
+    ∙ ap (λ (l : List ℕ). l ++ (get_or p after.depth x ∷ [])) (ap (take after.depth) places ∙ sym back.stands)
+    ∙ ap (λ (y : ℕ). stands_at after ++ (y ∷ [])) (ap (λ (n : ℕ). get_or p n x) end ∙ sym is)
+back_last before after false p x back places deep some is = absurd (omega (arith, back.0))
 
 module _ {K : Type 0} where
   -- two moves keep what a walk goes over where each does

@@ -63,9 +63,7 @@ impl<'a, K: Kind> Walk<'a, K> {
         ensures moved { Back (at self.old) result (at self.new) }
         ensures sound { Sound K.Kind.order self.old → Sound K.Kind.order self.new }
     {
-        // by the depth and not by `last()`, as the depth's contract ties the places to the levels
-        let end = self.trail.depth().checked_sub(1)?;
-        let last = self.trail.places()[end];
+        let last = *self.trail.places().last()?;
         self.trail.back();
         Some(last)
     }

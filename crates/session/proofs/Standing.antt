@@ -5,6 +5,7 @@ use Rattle.std.proofs.lemmas.List.{length-append, take-append-le, take_at}
 use Rattle.event.specs.declared.order.Order.{Order}
 use Rattle.event.specs.declared.refusal.Refusal.{Refusal}
 use Rattle.event.specs.declared.refusal.Refusal.TheVariants.{Threshold, Room}
+use Rattle.bundle.specs.declared.tape.Tapes.{Tapes}
 use Rattle.bundle.specs.Tapes.{tapes}
 use Rattle.matching.specs.Checks.{or_refused, unless, first_wrong}
 use Rattle.matching.specs.Picks.{picked}
@@ -61,8 +62,8 @@ module _ {K : Type 0} where
   pub same_over : (before after : Walk K) (o : law.Opening K) → SameRows before after → Over before o → Over after o
   same_over before after o same over =
       record {
-        events = ap (λ x. x.now) same.events ∙ over.events;
-        offsets = ap (λ x. x.now) same.offsets ∙ over.offsets;
+        events = ap (λ (t : Tapes K). t.events.now) same.tapes ∙ over.events;
+        offsets = ap (λ (t : Tapes K). t.offsets.now) same.tapes ∙ over.offsets;
         lexicon = ap (λ x. x.now) same.lexicon ∙ over.lexicon;
         longest = same.longest ∙ over.longest;
       }
@@ -75,7 +76,7 @@ module _ {K : Type 0} where
 
   pub unmoved_same : (before after : Walk K) → Unmoved before after → SameRows before after
   unmoved_same before after u =
-      record { events = u.same.events; offsets = u.same.offsets; lexicon = u.same.lexicon; longest = u.longest }
+      record { tapes = u.same.tapes; lexicon = u.same.lexicon; longest = u.longest }
 
   pub unmoved_at : (before after : Walk K) → Unmoved before after → at after ≡ at before
   unmoved_at before after u = ap (λ (n : ℕ). take n after.trail.list) u.trail.depth ∙ ap (take before.trail.depth) u.trail.list

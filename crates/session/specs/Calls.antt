@@ -34,8 +34,7 @@ raise_refusal s t = first_wrong (stage_refusal s.stage asks.Raise ∷ unless (ma
 module _ {K : Type 0} (before after : Session K) where
   -- an opening forgets what went before
   pub record OpenedBy (o : Opening K) : Type 0 where
-    pub events : after.walk.trail.events ≡ o.events
-    pub offsets : after.walk.trail.offsets ≡ o.offsets
+    pub tapes : after.walk.trail.tapes ≡ o.tapes
     pub lexicon : after.walk.trail.lexicon ≡ o.lexicon
     pub longest : after.walk.longest ≡ o.longest
     pub latest : at after.walk ≡ []

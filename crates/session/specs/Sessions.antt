@@ -17,8 +17,8 @@ use Rattle.session.specs.declared.session.Session.{Session}
 abbrev pub opening_of : {K : Type 0} → Opening K → law.Opening K
 opening_of o =
     record {
-      events = o.events.now;
-      offsets = o.offsets.now;
+      events = o.tapes.events.now;
+      offsets = o.tapes.offsets.now;
       lexicon = o.lexicon.now;
       threshold = o.threshold;
       longest = o.longest;
@@ -26,8 +26,8 @@ opening_of o =
 
 -- a walk goes over an opening's rows, up to its longest length
 pub record Over {K : Type 0} (walk : Walk K) (o : law.Opening K) : Type 0 where
-  pub events : walk.trail.events.now ≡ o.events
-  pub offsets : walk.trail.offsets.now ≡ o.offsets
+  pub events : walk.trail.tapes.events.now ≡ o.events
+  pub offsets : walk.trail.tapes.offsets.now ≡ o.offsets
   pub lexicon : walk.trail.lexicon.now ≡ o.lexicon
   pub longest : walk.longest ≡ o.longest
 

@@ -63,12 +63,8 @@ impl<'a, K: Kind> Session<'a, K> {
     {
         hear(self.stage, Ask::Open)?;
         check_opening(&opening)?;
-        self.walk.open(
-            opening.events,
-            opening.offsets,
-            opening.lexicon,
-            opening.longest as usize,
-        );
+        self.walk
+            .open(opening.tapes, opening.lexicon, opening.longest as usize);
         self.stage = Stage::Opened;
         self.threshold = opening.threshold;
         self.skipped = false;

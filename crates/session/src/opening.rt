@@ -3,6 +3,7 @@ ghost use Rattle.law.specs.Openings.{opening_refusal};
 ghost use Rattle.matching.specs.Checks.{or_refused};
 ghost use Rattle.session.specs.Sessions.{opening_of};
 
+use bundle::tape::Tapes;
 use event::kind::Kind;
 use event::refusal::Refusal;
 use matching::rows::check_rows;
@@ -11,11 +12,10 @@ use trail::level::MOST_LENGTH;
 /// The largest threshold.
 pub const MOST_THRESHOLD: u32 = 512;
 
-/// What a session is opened with: tape t has the events from offset t to just before offset t + 1.
+/// What a session is opened with: the tapes of a bundle, a lexicon, the threshold, and the longest length of a pattern.
 #[derive(Clone, Copy)]
 pub struct Opening<'a, K> {
-    pub events: &'a [K],
-    pub offsets: &'a [u32],
+    pub tapes: Tapes<'a, K>,
     pub lexicon: &'a [K],
     pub threshold: u32,
     pub longest: u32,
@@ -38,5 +38,5 @@ pub(crate) fn check_opening<'a, K: Kind>(opening: &Opening<'a, K>) -> Result<(),
     if !is_within(opening.longest, MOST_LENGTH as u32) {
         return Err(Refusal::Length);
     }
-    check_rows(opening.events, opening.offsets, opening.lexicon)
+    check_rows(&opening.tapes, opening.lexicon)
 }

@@ -3,20 +3,15 @@ ghost use Rattle.law.specs.Openings.{opening_refusal};
 
 use crate::opening::Opening;
 use crate::session::Session;
+use bundle::tape::Tapes;
 use event::kind::Kind;
 
 // Whether a session can be opened over tapes.
-fn opens<'a, K: Kind>(
-    session: &mut Session<'a, K>,
-    events: &'a [K],
-    offsets: &'a [u32],
-    lexicon: &'a [K],
-) -> bool
-    ensures { result ≡ not (is_some (opening_refusal K.Kind.order (record { events = events.entry.now; offsets = offsets.now; lexicon = lexicon.now; threshold = 1; longest = 1 }))) }
+fn opens<'a, K: Kind>(session: &mut Session<'a, K>, tapes: Tapes<'a, K>, lexicon: &'a [K]) -> bool
+    ensures { result ≡ not (is_some (opening_refusal K.Kind.order (record { events = tapes.entry.events.now; offsets = tapes.entry.offsets.now; lexicon = lexicon.now; threshold = 1; longest = 1 }))) }
 {
     let opening = Opening {
-        events,
-        offsets,
+        tapes,
         lexicon,
         threshold: 1,
         longest: 1,
@@ -36,6 +31,6 @@ fn sample<'a, K: Kind>(
     ensures { result ≡ not (is_some (opening_refusal K.Kind.order (record { events = slice_set events.entry.now 0 event; offsets = offsets.now; lexicon = lexicon.now; threshold = 1; longest = 1 }))) }
 {
     events[0] = event;
-    let opened = opens(session, events, offsets, lexicon);
+    let opened = opens(session, Tapes { events, offsets }, lexicon);
     opened
 }

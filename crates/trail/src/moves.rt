@@ -101,6 +101,7 @@ impl<'a, K: Kind> Trail<'a, K> {
     /// The list, as places of the lexicon.
     pub fn places(&self) -> &[u16]
         ensures list { result.now ≡ stands_at self.now }
+        ensures levels { length result.now ≡ self.now.depth }
         ensures known { (k : ℕ) → k < length result.now → slice_index result.now k < length self.now.lexicon.now }
     {
         &self.list[..self.depth]

@@ -1,4 +1,5 @@
-use Rattle.std.proofs.Common.{ℕ, List, refl, ap, Bor}
+use Rattle.std.proofs.Common.{List, refl, ap, Bor}
+use Rattle.bundle.specs.declared.tape.Tapes.{Tapes}
 use Rattle.law.specs.Openings.{opening_refusal}
 use Rattle.law.specs.Transcripts as law
 use Rattle.session.specs.Calls.{says_done}
@@ -26,8 +27,8 @@ returns-clause-extends g c h st =
         o,
         refl,
         record {
-          events = ap (λ (r : Bor (List _)). r.now) made.events_are;
-          offsets = ap (λ (r : Bor (List ℕ)). r.now) made.offsets_are;
+          events = ap (λ (t : Tapes _). t.events.now) made.tapes_are;
+          offsets = ap (λ (t : Tapes _). t.offsets.now) made.tapes_are;
           lexicon = ap (λ (r : Bor (List _)). r.now) made.lexicon_is;
           longest = made.longest_is;
         },
