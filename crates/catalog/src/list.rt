@@ -27,8 +27,7 @@ impl Contents for Patterns {
         page: &mut Page,
     ) -> Result<(), ListError> {
         let opening = Opening {
-            events: rows.events,
-            offsets: rows.offsets,
+            tapes: rows.tapes,
             lexicon: rows.lexicon,
             threshold: query.threshold,
             longest: query.longest,

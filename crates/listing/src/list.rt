@@ -25,13 +25,13 @@ impl Contents for Supports {
         page: &mut Page,
     ) -> Result<(), ListError> {
         let head: Line<'_, K> = Line::Head {
-            tapes: rows.offsets.len().saturating_sub(1),
-            events: rows.events.len(),
+            tapes: rows.tapes.offsets.len().saturating_sub(1),
+            events: rows.tapes.events.len(),
             query,
         };
         page.append(&head)?;
         for pattern in rows.lexicon.chunks(1) {
-            let support = support_of(rows.events, rows.offsets, pattern)?;
+            let support = support_of(&rows.tapes, pattern)?;
             page.append(&Line::Pattern { support, pattern })?;
         }
         Ok(())

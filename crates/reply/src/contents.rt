@@ -66,5 +66,5 @@ pub trait Contents {
         blank: K,
         page: &mut Page,
     ) -> Result<(), ListError>
-        ensures { Outcome (then_session None (listed.refusal K.Kind.order query.now rows.now.offsets.now rows.now.events.now rows.now.lexicon.now)) page.old (listed.lines K.Kind.order K.Kind.label query.now rows.now.offsets.now rows.now.events.now rows.now.lexicon.now) page.new result };
+        ensures { Outcome (then_session None (listed.refusal K.Kind.order query.now rows.now.tapes.offsets.now rows.now.tapes.events.now rows.now.lexicon.now)) page.old (listed.lines K.Kind.order K.Kind.label query.now rows.now.tapes.offsets.now rows.now.tapes.events.now rows.now.lexicon.now) page.new result };
 }

@@ -5,6 +5,7 @@ ghost use Rattle.reply.specs.Replies.{reading_fault, kind_text};
 use crate::contents::{Contents, ListError};
 use crate::rows::Rows;
 use bundle::reader::{MOST_EVENTS, MOST_TAPES, read_bundle};
+use bundle::tape::Tapes;
 use event::kind::Kind;
 use matching::learning::learn;
 use matching::lexicon::MOST_LEXICON;
@@ -29,8 +30,10 @@ pub(crate) fn append_file<C: Contents, K: Kind>(
     let events = &events[..count];
     let words = learn(events, &mut lexicon)?;
     let rows = Rows {
-        offsets: &offsets[..tapes + 1],
-        events,
+        tapes: Tapes {
+            events,
+            offsets: &offsets[..tapes + 1],
+        },
         lexicon: &lexicon[..words],
     };
     C::append(heap, query, &rows, blank, page)

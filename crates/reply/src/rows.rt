@@ -1,11 +1,12 @@
 ghost use Rattle.std.specs.Prelude.{◌≡◌, length, None};
 ghost use Rattle.matching.specs.Rows.{bundle_refusal};
 
-/// The rows of a bundle that was read, and the lexicon that was learned from it: tape t has the events from offset t to just before offset t + 1.
+use bundle::tape::Tapes;
+
+/// The tapes of a bundle that was read, and the lexicon that was learned from it.
 #[derive(Drop)]
 pub struct Rows<'a, K> {
-    pub offsets: &'a [u32],
-    pub events: &'a [K],
+    pub tapes: Tapes<'a, K>,
     pub lexicon: &'a [K],
-    ghost accepted: { bundle_refusal (length events.now) offsets.now ≡ None },
+    ghost accepted: { bundle_refusal (length tapes.events.now) tapes.offsets.now ≡ None },
 }

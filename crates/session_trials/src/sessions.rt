@@ -1,3 +1,4 @@
+use bundle::tape::Tapes;
 use event::refusal::Refusal;
 use event::scanner::Scanner;
 use filter::all::All;
@@ -30,8 +31,10 @@ const LEXICON: [Scanner; 4] = [TEN, TWENTY, THIRTY, FORTY];
 // An opening of the worked bundle.
 fn opening(threshold: u32, longest: u32) -> Opening<'static, Scanner> {
     Opening {
-        events: &EVENTS,
-        offsets: &OFFSETS,
+        tapes: Tapes {
+            events: &EVENTS,
+            offsets: &OFFSETS,
+        },
         lexicon: &LEXICON,
         threshold,
         longest,

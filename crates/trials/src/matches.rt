@@ -1,3 +1,4 @@
+use bundle::tape::Tapes;
 use event::refusal::Refusal;
 use event::scanner::Scanner;
 use event::station::Station;
@@ -21,22 +22,38 @@ const EVENTS: [Scanner; 12] = [
 
 const OFFSETS: [u32; 6] = [0, 4, 7, 9, 9, 12];
 
+// The worked bundle's tapes.
+fn tapes() -> Tapes<'static, Scanner> {
+    Tapes {
+        events: &EVENTS,
+        offsets: &OFFSETS,
+    }
+}
+
+// The worked bundle's events, cut by other offsets.
+fn cut_by(offsets: &[u32]) -> Tapes<'_, Scanner> {
+    Tapes {
+        events: &EVENTS,
+        offsets,
+    }
+}
+
 #[test]
 fn supports(rt: HostRuntime) {
-    assert_eq!(rt; support_of(&EVENTS, &OFFSETS, &[TEN]), Ok(4));
-    assert_eq!(rt; support_of(&EVENTS, &OFFSETS, &[TEN, TEN]), Ok(1));
-    assert_eq!(rt; support_of(&EVENTS, &OFFSETS, &[TWENTY, THIRTY]), Ok(1));
-    assert_eq!(rt; support_of(&EVENTS, &OFFSETS, &[THIRTY, THIRTY]), Ok(0));
+    assert_eq!(rt; support_of(&tapes(), &[TEN]), Ok(4));
+    assert_eq!(rt; support_of(&tapes(), &[TEN, TEN]), Ok(1));
+    assert_eq!(rt; support_of(&tapes(), &[TWENTY, THIRTY]), Ok(1));
+    assert_eq!(rt; support_of(&tapes(), &[THIRTY, THIRTY]), Ok(0));
     assert_eq!(rt;
-        support_of(&EVENTS, &OFFSETS, &[TWENTY, TEN, THIRTY]),
+        support_of(&tapes(), &[TWENTY, TEN, THIRTY]),
         Ok(1)
     );
-    assert_eq!(rt; support_of(&EVENTS, &OFFSETS, &[]), Ok(5));
+    assert_eq!(rt; support_of(&tapes(), &[]), Ok(5));
     assert_eq!(rt;
-        support_of(&EVENTS, &OFFSETS[0..5], &[TEN]),
+        support_of(&cut_by(&OFFSETS[0..5]), &[TEN]),
         Err(Refusal::Offsets)
     );
-    assert_eq!(rt; support_of(&EVENTS, &[], &[TEN]), Err(Refusal::Offsets));
+    assert_eq!(rt; support_of(&cut_by(&[]), &[TEN]), Err(Refusal::Offsets));
 }
 
 #[test]
@@ -63,21 +80,25 @@ fn the_first_of_a_class_is_learned(rt: HostRuntime) {
         station: 9,
     };
     let tape = [seven, nine];
+    let tapes = Tapes {
+        events: &tape,
+        offsets: &[0, 2],
+    };
     let mut row = [nine; 2];
     assert_eq!(rt; learn(&tape, &mut row), Ok(1));
     assert_eq!(rt; row[0], seven);
-    assert_eq!(rt; support_of(&tape, &[0, 2], &[nine, nine]), Ok(1));
+    assert_eq!(rt; support_of(&tapes, &[nine, nine]), Ok(1));
 }
 
 #[test]
 fn rows_are_checked(rt: HostRuntime) {
-    assert!(rt; check_rows(&EVENTS, &OFFSETS, &[TEN, TWENTY]).is_ok());
+    assert!(rt; check_rows(&tapes(), &[TEN, TWENTY]).is_ok());
     assert_eq!(rt;
-        check_rows(&EVENTS, &OFFSETS, &[TEN, TEN]),
+        check_rows(&tapes(), &[TEN, TEN]),
         Err(Refusal::Lexicon)
     );
     assert_eq!(rt;
-        check_rows(&EVENTS, &[0, 4, 3, 12], &[TWENTY, TEN]),
+        check_rows(&cut_by(&[0, 4, 3, 12]), &[TWENTY, TEN]),
         Err(Refusal::Offsets)
     );
 }
@@ -85,7 +106,7 @@ fn rows_are_checked(rt: HostRuntime) {
 #[test]
 fn the_trail_walks(rt: HostRuntime) {
     let lexicon = [TEN, TWENTY, THIRTY, FORTY];
-    let mut trail = Trail::open(&EVENTS, &OFFSETS, &lexicon);
+    let mut trail = Trail::open(tapes(), &lexicon);
     assert_eq!(rt; trail.support(), 5);
     assert_eq!(rt; trail.deeper(0, 2), Some(4));
     assert_eq!(rt; trail.try_event(&TEN), 1);

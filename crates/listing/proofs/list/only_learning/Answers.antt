@@ -13,4 +13,4 @@ first_decides (Some r) = refl
 pub returns : goal.returns
 returns g c =
     let k = g.K.Kind in
-    λ query file. ap (then_session (file_fault k.number k.width k.stands file)) (first_decides (learn_refusal k.order (events_of k.width k.stands file) 1024))
+    λ query file. ap (then_session (file_fault k.NUMBER k.WIDTH k.stands file)) (first_decides (learn_refusal k.order (events_of k.WIDTH k.stands file) 1024))

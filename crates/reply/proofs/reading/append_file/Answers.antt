@@ -41,9 +41,9 @@ module _ (g : Over) (c : After-deref-3 g) (events_are : take c.in_ok-tapes.count
 pub returns-in_err-tapes : goal.returns-in_err-tapes
 returns-in_err-tapes g c =
     let k = g.K.Kind in
-    let f = not_read k.number k.width k.stands c.args.file.now c.deref_mut.result.now c.deref_mut-2.result.now (omega (arith, c.in_ok-offsets.ensures.len)) (omega (arith, c.in_ok-events.ensures.len)) _ (sym c.in_err-tapes.was ∙ c.read_bundle.ensures.answer) in
+    let f = not_read k.NUMBER k.WIDTH k.stands c.args.file.now c.deref_mut.result.now c.deref_mut-2.result.now (omega (arith, c.in_ok-offsets.ensures.len)) (omega (arith, c.in_ok-events.ensures.len)) _ (sym c.in_err-tapes.was ∙ c.read_bundle.ensures.answer) in
     let p = err_from_is_err_and c.from_residual-in_err-tapes.result c.from_residual-in_err-tapes.ensures.1 in
-    rw (p.1, p.2) (reading_fails k.number k.width k.stands c.args.file.now g.C.Contents.listed k.order c.args.query.now _ f, refl)
+    rw (p.1, p.2) (reading_fails k.NUMBER k.WIDTH k.stands c.args.file.now g.C.Contents.listed k.order c.args.query.now _ f, refl)
 
 pub slice_bounds-events-end : goal.slice_bounds-events-end
 slice_bounds-events-end g c =
@@ -54,9 +54,9 @@ pub returns-in_err-words : goal.returns-in_err-words
 returns-in_err-words g c =
     let k = g.K.Kind in
     let a = (goal.at.returns-in_err-words g c).After-deref in
-    let r = not_learned k.order (take c.in_ok-tapes.count c.deref.result.now) (events_of k.width k.stands c.args.file.now) (events g a) (length c.deref_mut-3.result.now) (omega (arith, c.in_ok-lexicon.ensures.len)) _ (sym c.in_err-words.was ∙ c.learn.ensures.answer) in
+    let r = not_learned k.order (take c.in_ok-tapes.count c.deref.result.now) (events_of k.WIDTH k.stands c.args.file.now) (events g a) (length c.deref_mut-3.result.now) (omega (arith, c.in_ok-lexicon.ensures.len)) _ (sym c.in_err-words.was ∙ c.learn.ensures.answer) in
     let p = err_from_is_err_and c.from_residual-in_err-words.result c.from_residual-in_err-words.ensures.1 in
-    rw (p.1, p.2) (learning_fails k.number k.width k.stands c.args.file.now g.C.Contents.listed k.order c.args.query.now _ (read g a).none r, refl)
+    rw (p.1, p.2) (learning_fails k.NUMBER k.WIDTH k.stands c.args.file.now g.C.Contents.listed k.order c.args.query.now _ (read g a).none r, refl)
 
 pub overflow_add-rows : goal.overflow_add-rows
 overflow_add-rows g c =
@@ -83,8 +83,8 @@ invariant_of-rows g c =
     record {
       accepted =
           ap (λ (l : List _). bundle_refusal (length l) (take (c.in_ok-tapes.tapes + 1) c.deref-2.result.now)) (events g a)
-          ∙ ap (bundle_refusal (length (events_of k.width k.stands c.args.file.now))) os
-          ∙ read_accepted k.number k.width k.stands c.args.file.now r.none;
+          ∙ ap (bundle_refusal (length (events_of k.WIDTH k.stands c.args.file.now))) os
+          ∙ read_accepted k.NUMBER k.WIDTH k.stands c.args.file.now r.none;
     }
 
 pub returns : goal.returns
@@ -94,7 +94,7 @@ returns g c =
     let d = (goal.at.returns g c).After-deref-3 in
     let r = read g a in
     let w = words g d (events g a) in
-    rows_outcome k.number k.width k.stands c.args.file.now g.C.Contents.listed k.order c.args.query.now k.label r.none w.0
+    rows_outcome k.NUMBER k.WIDTH k.stands c.args.file.now g.C.Contents.listed k.order c.args.query.now k.label r.none w.0
     (take (c.in_ok-tapes.tapes + 1) c.deref-2.result.now) (take c.in_ok-tapes.count c.deref.result.now) (take c.in_ok-words.words c.deref-3.result.now)
     (ap (take (c.in_ok-tapes.tapes + 1)) (lent_offsets g (goal.at.returns g c).After-deref-2) ∙ r.offsets)
     (events g a)

@@ -20,11 +20,11 @@ loop-pattern-preserved g c =
     let order = g.K.Kind.order in
     let label = g.K.Kind.label in
     let rows = c.args.rows.now in
-    let ts = tapes rows.events.now rows.offsets.now in
+    let ts = tapes rows.tapes.events.now rows.tapes.offsets.now in
     let p = c.in-Some.pattern.now in
     let was = c.loop-pattern.page in
     let s = c.in-Some.ensures.steps in
-    let n : c.in_ok-support.support ≡ support order ts p = answered (bundle_refusal (length rows.events.now) rows.offsets.now) c.in_ok-support.support (support order ts p) rows.accepted (sym c.in_ok-support.was ∙ c.support_of.ensures) in
+    let n : c.in_ok-support.support ≡ support order ts p = answered (bundle_refusal (length rows.tapes.events.now) rows.tapes.offsets.now) c.in_ok-support.support (support order ts p) rows.accepted (sym c.in_ok-support.was ∙ c.support_of.ensures) in
     let more = c.in_ok-append-2.ensures ∙ ap (λ (k : ℕ). was ++ pattern_text label k p) n in (
       more_text order label ts p (chunks_rest c.next.new.self) was c.append-in-loop-pattern.new.self (omega (arith, s.1.1)) more
           ∙ ap (λ (l : List _). was ++ flat_map (event_text order label ts) l) (sym s.1.0)
