@@ -10,6 +10,7 @@ ghost use Rattle.matching.specs.Rows.{bundle_refusal};
 ghost use Rattle.matching.specs.Support.{support};
 ghost use Rattle.exports.specs.Answers.{in_number};
 
+use bundle::tape::Tapes;
 use event::refusal::Refusal;
 use event::scanner::Scanner;
 use matching::learning::learn;
@@ -30,7 +31,7 @@ fn as_number(answer: Result<u64, Refusal>) -> u64
 pub extern "C" fn scanner_support(events: &[Scanner], offsets: &[u32], pattern: &[Scanner]) -> u64
     ensures { result ≡ in_number (or_refused (bundle_refusal (length events.now) offsets.now) (support order_of (tapes events.now offsets.now) pattern.now)) }
 {
-    as_number(support_of::<Scanner>(events, offsets, pattern).map(u64::from))
+    as_number(support_of::<Scanner>(&Tapes { events, offsets }, pattern).map(u64::from))
 }
 
 /// Learns a lexicon of scanner events into a row, and returns how many, or a refusal.
