@@ -44,10 +44,7 @@ fn supports(rt: HostRuntime) {
     assert_eq!(rt; support_of(&tapes(), &[TEN, TEN]), Ok(1));
     assert_eq!(rt; support_of(&tapes(), &[TWENTY, THIRTY]), Ok(1));
     assert_eq!(rt; support_of(&tapes(), &[THIRTY, THIRTY]), Ok(0));
-    assert_eq!(rt;
-        support_of(&tapes(), &[TWENTY, TEN, THIRTY]),
-        Ok(1)
-    );
+    assert_eq!(rt; support_of(&tapes(), &[TWENTY, TEN, THIRTY]), Ok(1));
     assert_eq!(rt; support_of(&tapes(), &[]), Ok(5));
     assert_eq!(rt;
         support_of(&cut_by(&OFFSETS[0..5]), &[TEN]),
@@ -93,10 +90,7 @@ fn the_first_of_a_class_is_learned(rt: HostRuntime) {
 #[test]
 fn rows_are_checked(rt: HostRuntime) {
     assert!(rt; check_rows(&tapes(), &[TEN, TWENTY]).is_ok());
-    assert_eq!(rt;
-        check_rows(&tapes(), &[TEN, TEN]),
-        Err(Refusal::Lexicon)
-    );
+    assert_eq!(rt; check_rows(&tapes(), &[TEN, TEN]), Err(Refusal::Lexicon));
     assert_eq!(rt;
         check_rows(&cut_by(&[0, 4, 3, 12]), &[TWENTY, TEN]),
         Err(Refusal::Offsets)
