@@ -25,7 +25,7 @@ impl From<QueryFault> for ListError {
     ghost from_gives = { λ e r. r ≡ reply.Refused (lister.Query e) };
 
     fn from(fault: QueryFault) -> ListError {
-        ListError::Refused(fault.into())
+        ListError::Refused(ListerFault::Query(fault))
     }
 }
 
@@ -33,7 +33,7 @@ impl From<BundleFault> for ListError {
     ghost from_gives = { λ e r. r ≡ reply.Refused (lister.Bundle e) };
 
     fn from(fault: BundleFault) -> ListError {
-        ListError::Refused(fault.into())
+        ListError::Refused(ListerFault::Bundle(fault))
     }
 }
 
@@ -41,7 +41,7 @@ impl From<Refusal> for ListError {
     ghost from_gives = { λ e r. r ≡ reply.Refused (lister.Session e) };
 
     fn from(refusal: Refusal) -> ListError {
-        ListError::Refused(refusal.into())
+        ListError::Refused(ListerFault::Session(refusal))
     }
 }
 
