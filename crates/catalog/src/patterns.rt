@@ -83,7 +83,7 @@ pub(crate) fn append_opened<'a, K: Kind>(
     ensures { OnOk result (page.new ≡ page.old ++ (head_text (length (opening_of opening.now).offsets - 1) (length (opening_of opening.now).events) query.now.threshold query.now.longest ++ session_text K.Kind.order K.Kind.label (opening_of opening.now))) }
 {
     let head: Line<'_, K> = Line::Head {
-        tapes: opening.tapes.offsets.len().saturating_sub(1),
+        tapes: opening.tapes.count(),
         events: opening.tapes.events.len(),
         query,
     };

@@ -25,7 +25,7 @@ impl Contents for Supports {
         page: &mut Page,
     ) -> Result<(), ListError> {
         let head: Line<'_, K> = Line::Head {
-            tapes: rows.tapes.offsets.len().saturating_sub(1),
+            tapes: rows.tapes.count(),
             events: rows.tapes.events.len(),
             query,
         };
@@ -46,7 +46,7 @@ pub fn reply_to(heap: Global, input: &[u8]) -> Result<Reply, AllocError>
     answer::reply_to::<Supports>(heap, input)
 }
 
-/// A bundle whose lexicon was learned is not refused.
+/// What is wrong with a bundle file is wrong with its bytes or with the lexicon that is learned from it.
 pub fn only_learning<K: Kind>() -> u8
     ensures { OnlyLearning K.Kind.NUMBER K.Kind.WIDTH K.Kind.stands K.Kind.order }
 {

@@ -15,7 +15,7 @@ fn count_tapes<K: Kind>(tapes: &Tapes<'_, K>, pattern: &[K]) -> u32
     requires { length tapes.now.offsets.now ≤ 513 }
     ensures { result ≡ support K.Kind.order (all_tapes tapes.now) pattern.now }
 {
-    (0..tapes.offsets.len().saturating_sub(1))
+    (0..tapes.count())
         .filter(|number| tape_includes(tapes.tape(*number), pattern))
         .count() as u32
 }

@@ -21,19 +21,28 @@ pub enum ListError {
     Memory,
 }
 
+impl From<ListerFault> for ListError {
+    ghost from_gives = { λ e r. r ≡ reply.Refused e };
+
+    fn from(fault: ListerFault) -> ListError {
+        ListError::Refused(fault)
+    }
+}
+
+// One for each fault below, and not one for all that become a fault: that could meet the one for memory.
 impl From<QueryFault> for ListError {
     ghost from_gives = { λ e r. r ≡ reply.Refused (lister.Query e) };
 
-    fn from(fault: QueryFault) -> ListError {
-        ListError::Refused(ListerFault::Query(fault))
+    fn from(query: QueryFault) -> ListError {
+        ListError::Refused(query.into())
     }
 }
 
 impl From<BundleFault> for ListError {
     ghost from_gives = { λ e r. r ≡ reply.Refused (lister.Bundle e) };
 
-    fn from(fault: BundleFault) -> ListError {
-        ListError::Refused(ListerFault::Bundle(fault))
+    fn from(bundle: BundleFault) -> ListError {
+        ListError::Refused(bundle.into())
     }
 }
 
@@ -41,7 +50,7 @@ impl From<Refusal> for ListError {
     ghost from_gives = { λ e r. r ≡ reply.Refused (lister.Session e) };
 
     fn from(refusal: Refusal) -> ListError {
-        ListError::Refused(ListerFault::Session(refusal))
+        ListError::Refused(refusal.into())
     }
 }
 

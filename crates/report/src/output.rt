@@ -69,8 +69,8 @@ fn grow(row: &mut Vec<u8>) -> Result<(), AllocError>
     row.resize(row.len() + GROWTH, 0)
 }
 
-// Appends a line to a text. The row is where it is written first, and grows to the longest line.
-fn append<K: Kind>(
+/// Appends a line to a text. The row is where it is written first, and grows to the longest line.
+pub fn append<K: Kind>(
     line: &Line<'_, K>,
     row: &mut Vec<u8>,
     text: &mut Vec<u8>,

@@ -17,7 +17,7 @@ impl<'a, K: Kind> Trail<'a, K> {
         ensures opened { Opened tapes.entry lexicon.entry result }
         ensures sound { Sound K.Kind.order result }
     {
-        let count = tapes.offsets.len() - 1;
+        let count = tapes.count();
         let mut numbers = [0; ROOM];
         let roots = &mut numbers[..count];
         for (tape, root) in roots.iter_mut().enumerate() {

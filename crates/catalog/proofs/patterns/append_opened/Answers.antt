@@ -35,7 +35,7 @@ returns g c =
     let count = min (length (listed order o)) most_counted in
     let head = λ (n : ℕ). head_text n (length o.events) query.threshold query.longest in
     let read = c.in_ok-append_patterns.ensures in
-    let begun : first ≡ was ++ head tapes = c.in_ok-append.ensures ∙ ap (λ (n : ℕ). was ++ head n) c.saturating_sub.ensures in
+    let begun : first ≡ was ++ head tapes = c.in_ok-append.ensures ∙ ap (λ (n : ℕ). was ++ head n) c.count.ensures in
     let list = whole_text order o label s first second read in
     let told : c.in-Ok.count ≡ count = same_second c.tell.result _ s.threshold c.in-Ok.count count c.in-Ok.is (whole_told order o label s first second read c.tell.result c.tell.ensures.answer) in
     IfOk-weaker c.append-2.result (λ u. third ≡ second ++ end_text c.in-Ok.count) (λ u. third ≡ was ++ (head tapes ++ session_text order label o))

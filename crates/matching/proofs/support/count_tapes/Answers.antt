@@ -13,5 +13,5 @@ returns g c =
     let all = all_tapes c.args.tapes.now in
     let pattern = c.args.pattern.now in
     let n = length_tapes c.args.tapes.now.events.now c.args.tapes.now.offsets.now in
-    count_from_yields_List c.filter.result c.count.result c.count.ensures.ran (YieldsList-from_filter _ (λ number. includes g.K.Kind.order (get_or all number []) pattern) (YieldsList-from_range 0 c.saturating_sub.result c.saturating_sub.result c.filter.ensures.source (omega arith)) c.filter.ensures.closure (λ x b q k. search (rules, tests)))
-    ∙ support_counted g.K.Kind.order all pattern c.saturating_sub.result (omega arith)
+    count_from_yields_List c.filter.result c.count-2.result c.count-2.ensures.ran (YieldsList-from_filter _ (λ number. includes g.K.Kind.order (get_or all number []) pattern) (YieldsList-from_range 0 c.count.result c.count.result c.filter.ensures.source (omega arith)) c.filter.ensures.closure (λ x b q k. search (rules, tests)))
+    ∙ support_counted g.K.Kind.order all pattern c.count.result (omega arith)

@@ -1,8 +1,8 @@
 use Rattle.std.proofs.Common.{◌≡◌, ℕ, ◌+◌, ◌<◌, ◌≤◌, ◌⊎◌, min, List, length, get_or, drop, sym, ap, ◌∙◌, ⊎_elim, arith}
 use Rattle.std.proofs.lemmas.List.{take_rest, length-drop, get_or-drop}
 use Rattle.bundle.proofs.Cuts.{tape_between, tape_past, between_within}
-use Rattle.bundle.proofs.tape.Tapes.tape.Goals as goal
-use Rattle.bundle.proofs.tape.Tapes.tape.Goals.{in_default-via-in-Some+then-get-lt2, in_default-via-in_default}
+use Rattle.bundle.proofs.tape.tape_at.Goals as goal
+use Rattle.bundle.proofs.tape.tape_at.Goals.{in_default-via-in-Some+then-get-lt2, in_default-via-in_default}
 
 -- what begins at a place and goes to the end is missing only where the place is past the end
 past_end : (from n : ℕ) → (n < from) ⊎ (n < n) → n < from
@@ -10,14 +10,14 @@ past_end from n e = ⊎_elim (λ (h : n < from). h) (λ (h : n < n). absurd (ome
 
 pub returns-in_default-clause-tape : goal.returns-in_default-clause-tape
 returns-in_default-clause-tape g c =
-    let past : length c.args.self.now.offsets.now ≤ c.args.number + 1 =
-    elim c.in_default.branch [ in_default-via-in-Some+then-get-lt2 w ↦ grind (arith, c.get.ensures.lookup) | in_default-via-in_default w ↦ omega (arith, past_end c.args.number (length c.args.self.now.offsets.now) (rw w.in_default.is at c.get.ensures.lookup).0) ] in
-    sym (tape_past c.args.self.now.events.now c.args.self.now.offsets.now c.args.number past)
+    let past : length c.args.offsets.now ≤ c.args.number + 1 =
+    elim c.in_default.branch [ in_default-via-in-Some+then-get-lt2 w ↦ grind (arith, c.get.ensures.lookup) | in_default-via-in_default w ↦ omega (arith, past_end c.args.number (length c.args.offsets.now) (rw w.in_default.is at c.get.ensures.lookup).0) ] in
+    sym (tape_past c.args.events.now c.args.offsets.now c.args.number past)
 
 pub returns-clause-tape : goal.returns-clause-tape
 returns-clause-tape g c =
-    let events = c.args.self.now.events.now in
-    let os = c.args.self.now.offsets.now in
+    let events = c.args.events.now in
+    let os = c.args.offsets.now in
     let t = c.args.number in
     let rest = c.in-Some-len2-up.field-0.now in
     let behind : rest ≡ drop t os = c.in-Some-len2-up.ensures.lookup.0.2 ∙ take_rest os t in
