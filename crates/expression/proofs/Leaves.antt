@@ -1,15 +1,16 @@
 -- A mark is a leaf exactly where something stands at it.
 use Rattle.std.proofs.Common.{◌≡◌, ℕ, ◌+◌, Bool, true, false, cond, eqb, List, [], ◌∷◌, map, length, Some, None, Option, refl, arith}
 use Rattle.std.specs.List.{cons_option, filter_map}
+use Rattle.std.specs.Option.{option_map, option_map_or}
+use Rattle.event.specs.Numerals.{is_digit}
 use Rattle.event.specs.Spans.{spanned}
 use Rattle.event.specs.declared.span.Span.{Span}
 use Rattle.grammar.specs.declared.mark.Mark.{Mark}
 use Rattle.grammar.specs.declared.mark.Mark.TheVariants.{Leaf, Open, Close, Bar, Star, Plus, Maybe, Other}
 use Rattle.grammar.specs.Stands.{count}
 use Rattle.regular.specs.declared.label.Label.{Label}
-use Rattle.regular.specs.declared.label.Label.TheVariants.{Any}
-use Rattle.expression.specs.Cuts.{is_digit}
-use Rattle.expression.specs.Marks.{event_leaf, leaf_or, mark_of, leaf_of}
+use Rattle.regular.specs.declared.label.Label.TheVariants.{Any, Event}
+use Rattle.expression.specs.Marks.{mark_of, leaf_of}
 
 -- of the bytes that are marks alone only the dot is a leaf
 other_sign : (o c b s p m : Bool) → count Leaf (cond o Open (cond c Close (cond b Bar (cond s Star (cond p Plus (cond m Maybe Other))))) ∷ []) ≡ 0
@@ -31,7 +32,7 @@ module _ {K : Type 0} (labelled : List ℕ → Option K) where
   leaves_more (Some l) ls = omega arith
   leaves_more None ls = omega arith
 
-  label_leaf : (o : Option K) → leaves_of (event_leaf o) ≡ count Leaf (leaf_or o ∷ [])
+  label_leaf : (o : Option K) → leaves_of (option_map Event o) ≡ count Leaf (option_map_or (λ _. Leaf) o Other ∷ [])
   label_leaf (Some e) = refl
   label_leaf None = refl
 

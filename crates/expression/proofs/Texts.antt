@@ -1,11 +1,9 @@
 -- What reading a text answers, by what reading its marks did.
 use Rattle.std.proofs.Common.{◌≡◌, ℕ, ◌≤◌, List, length, Some, Option, sym, ap, ◌∙◌, subst}
 use Rattle.std.proofs.lemmas.Bool.{cond-true, le-leb}
-use Rattle.event.specs.declared.span.Span.{Span}
 use Rattle.regular.specs.declared.node.Node.{Node}
 use Rattle.regular.specs.Expressions.{tree_of, labels_of}
 use Rattle.regular.specs.Trees.{tree}
-use Rattle.grammar.specs.declared.mark.Mark.{Mark}
 use Rattle.grammar.specs.declared.mark.ReadFault.{ReadFault}
 use Rattle.grammar.specs.declared.mark.ReadFault.TheVariants.{Mark as MarkFault, Size as LargeFault, Memory as NoMemory}
 use Rattle.grammar.specs.Faults.{fault_of}
@@ -25,17 +23,19 @@ module _ {K : Type 0} (labelled : List ℕ → Option K) (text : List ℕ) (smal
   of_marks LargeFault h = faulty ∙ ap (placed text) h.1
   of_marks NoMemory h = tt
 
-  pub not_read : (spans : List Span) (ms : List Mark) (f : ReadFault) → spans ≡ spans_in text → ms ≡ marks_in labelled text → NotWhole ms f → NotRead labelled text (error_at spans (length text) f)
-  not_read spans ms f i m h =
-      subst (λ (l : List Span). NotRead labelled text (error_at l (length text) f)) (sym i) (of_marks f (subst (λ (l : List Mark). NotWhole l f) m h))
+  pub not_read : (cut : List ℕ) (f : ReadFault) → cut ≡ text → NotWhole (marks_in labelled cut) f → NotRead labelled text (error_at (spans_in cut) (length cut) f)
+  not_read cut f e = subst (λ (t : List ℕ). NotWhole (marks_in labelled t) f → NotRead labelled text (error_at (spans_in t) (length t) f)) (sym e) (of_marks f)
 
-  pub read_as : (ms : List Mark) (ns : List Node) (root : ℕ) (m : Matches K) → ms ≡ marks_in labelled text → Whole ms ns root → tree_of m.expression ≡ tree ns root
-      → labels_of m.expression ≡ leaves_in labelled text → ReadAs labelled text m
-  read_as ms ns root m e w t l =
+  whole_read : (ns : List Node) (root : ℕ) (m : Matches K) → tree_of m.expression ≡ tree ns root → Whole (marks_in labelled text) ns root → labels_of m.expression ≡ leaves_in labelled text → ReadAs labelled text m
+  whole_read ns root m t w l =
       record {
-        faultless = faulty ∙ ap (placed text) (ap fault_of (sym e) ∙ w.faultless);
+        faultless = faulty ∙ ap (placed text) w.faultless;
         labels = l;
         leaves = w.leaves;
-        reads = subst (Reads (marks_in labelled text) expression 0 (length (marks_in labelled text)) 0 w.leaves) (sym t)
-            (subst (λ (xs : List Mark). Reads xs expression 0 (length xs) 0 w.leaves (tree ns root)) e w.reads);
+        reads = subst (Reads (marks_in labelled text) expression 0 (length (marks_in labelled text)) 0 w.leaves) (sym t) w.reads;
       }
+
+  pub read_as : (cut : List ℕ) (ns : List Node) (root : ℕ) (m : Matches K) → cut ≡ text → Whole (marks_in labelled cut) ns root → tree_of m.expression ≡ tree ns root
+      → labels_of m.expression ≡ leaves_in labelled cut → ReadAs labelled text m
+  read_as cut ns root m e w t =
+      subst (λ (x : List ℕ). Whole (marks_in labelled x) ns root → labels_of m.expression ≡ leaves_in labelled x → ReadAs labelled text m) (sym e) (whole_read ns root m t) w

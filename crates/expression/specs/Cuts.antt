@@ -2,11 +2,8 @@
 use Rattle.std.specs.Prelude.{ℕ, ◌+◌, ◌-◌, Bool, false, cond, ◌&&◌, ◌||◌, List, [], ◌∷◌, ◌++◌, Some, None, Option, ◌==◌, nat_le}
 use Rattle.std.specs.Option.{option_to_list}
 use Rattle.event.specs.declared.span.Span.{Span}
+use Rattle.event.specs.Numerals.{is_digit}
 use Rattle.event.specs.Spans.{span}
-
--- whether a byte is a digit, which starts a label
-abbrev pub is_digit : ℕ → Bool
-is_digit b = nat_le 48 b && nat_le b 57
 
 -- whether a byte goes on with a label: a digit, a colon or a small letter
 abbrev pub goes_on : ℕ → Bool
@@ -17,7 +14,7 @@ abbrev pub stays_in : Option ℕ → ℕ → Bool
 stays_in (Some start) b = goes_on b
 stays_in None b = false
 
--- the label that is open behind a byte
+-- the label that is open behind a byte: a digit starts one
 abbrev pub next_begun : Option ℕ → ℕ → ℕ → Option ℕ
 next_begun begun at b = cond (stays_in begun b) begun (cond (is_digit b) (Some at) None)
 

@@ -1,12 +1,14 @@
 -- What a mark is, for a kind of event by its labels.
-use Rattle.std.specs.Prelude.{ℕ, cond, List, [], ◌∷◌, map, Some, None, Option, ◌==◌}
+use Rattle.std.specs.Prelude.{ℕ, cond, List, [], ◌∷◌, map, Some, None, Option, option_map, ◌==◌}
 use Rattle.std.specs.List.{filter_map}
+use Rattle.std.specs.Option.{option_map_or}
+use Rattle.event.specs.Numerals.{is_digit}
 use Rattle.event.specs.Spans.{spanned}
 use Rattle.grammar.specs.declared.mark.Mark.{Mark}
 use Rattle.grammar.specs.declared.mark.Mark.TheVariants.{Leaf, Open, Close, Bar, Star, Plus, Maybe, Other}
 use Rattle.regular.specs.declared.label.Label.{Label}
 use Rattle.regular.specs.declared.label.Label.TheVariants.{Any, Event}
-use Rattle.expression.specs.Cuts.{is_digit, spans_in}
+use Rattle.expression.specs.Cuts.{spans_in}
 
 -- the mark that a byte is alone
 abbrev pub sign_of : ℕ → Mark
@@ -16,26 +18,16 @@ sign_of b =
     (cond (b == 41) Close
     (cond (b == 124) Bar (cond (b == 42) Star (cond (b == 43) Plus (cond (b == 63) Maybe Other))))))
 
--- the leaf of a label that stands for an event, if it does
-abbrev pub event_leaf : {K : Type 0} → Option K → Option (Label K)
-event_leaf (Some e) = Some (Event e)
-event_leaf None = None
-
--- a leaf, or a mark that fits nowhere
-abbrev pub leaf_or : {K : Type 0} → Option K → Mark
-leaf_or (Some e) = Leaf
-leaf_or None = Other
-
 module _ {K : Type 0} (labelled : List ℕ → Option K) where
   -- the mark of some bytes: a label of the kind is a leaf, and other labels fit nowhere
   abbrev pub mark_of : List ℕ → Mark
   mark_of [] = Other
-  mark_of (b ∷ bs) = cond (is_digit b) (leaf_or (labelled (b ∷ bs))) (sign_of b)
+  mark_of (b ∷ bs) = cond (is_digit b) (option_map_or (λ _. Leaf) (labelled (b ∷ bs)) Other) (sign_of b)
 
   -- what stands at the leaf that some bytes are, if they are one
   abbrev pub leaf_of : List ℕ → Option (Label K)
   leaf_of [] = None
-  leaf_of (b ∷ bs) = cond (is_digit b) (event_leaf (labelled (b ∷ bs))) (cond (b == 46) (Some Any) None)
+  leaf_of (b ∷ bs) = cond (is_digit b) (option_map Event (labelled (b ∷ bs))) (cond (b == 46) (Some Any) None)
 
   -- the marks of a text
   abbrev pub marks_in : List ℕ → List Mark

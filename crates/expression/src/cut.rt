@@ -11,58 +11,66 @@ fn goes_on(byte: u8) -> bool
     byte.is_ascii_digit() || byte == b':' || byte.is_ascii_lowercase()
 }
 
-// These are asked of one byte each; a struct of the byte, its place and the label that is open would be made for one call.
-
-// Whether a label that is open goes on with a byte.
-fn stays_in(begun: Option<usize>, byte: u8) -> bool
-    ensures { result ≡ stays_in begun byte }
-{
-    begun.is_some() && goes_on(byte)
+// The label that is open, by its first place, if one is.
+#[derive(Clone, Copy, Debug)]
+struct Open {
+    begun: Option<usize>,
 }
 
-// The label that is open behind a byte, by its first place: a digit starts one.
-fn next_begun(begun: Option<usize>, at: usize, byte: u8) -> Option<usize>
-    ensures { result ≡ next_begun begun at byte }
-{
-    if stays_in(begun, byte) {
-        begun
-    } else {
-        byte.is_ascii_digit().then_some(at)
+impl Open {
+    // Whether the label goes on with a byte.
+    fn stays(self, byte: u8) -> bool
+        ensures { result ≡ stays_in self.begun byte }
+    {
+        self.begun.is_some() && goes_on(byte)
     }
-}
 
-// The label that ends before a byte.
-fn ended_before(begun: Option<usize>, at: usize, byte: u8) -> Option<Span>
-    ensures { result ≡ ended begun at byte }
-{
-    if goes_on(byte) {
-        None
-    } else {
-        ended_at(begun, at)
+    // The label that is open behind a byte: a digit starts one.
+    fn behind(self, at: usize, byte: u8) -> Open
+        ensures { result.begun ≡ next_begun self.begun at byte }
+    {
+        if self.stays(byte) {
+            self
+        } else {
+            Open {
+                begun: byte.is_ascii_digit().then_some(at),
+            }
+        }
     }
-}
 
-// The label that ends at a place.
-fn ended_at(begun: Option<usize>, at: usize) -> Option<Span>
-    ensures { result ≡ lone begun at }
-{
-    begun.map(|start| Span {
-        start,
-        length: at.saturating_sub(start),
-    })
-}
+    // The label, if it ends before a byte.
+    fn ended_before(self, at: usize, byte: u8) -> Option<Span>
+        ensures { result ≡ ended self.begun at byte }
+    {
+        if goes_on(byte) {
+            None
+        } else {
+            self.ended_at(at)
+        }
+    }
 
-// The mark that a byte is alone.
-fn alone_at(begun: Option<usize>, at: usize, byte: u8) -> Option<Span>
-    ensures { result ≡ alone begun at byte }
-{
-    if stays_in(begun, byte) || byte.is_ascii_digit() || byte == b' ' {
-        None
-    } else {
-        Some(Span {
-            start: at,
-            length: 1,
+    // The label, ended at a place.
+    fn ended_at(self, at: usize) -> Option<Span>
+        ensures { result ≡ lone self.begun at }
+    {
+        self.begun.map(|start| Span {
+            start,
+            length: at.saturating_sub(start),
         })
+    }
+
+    // The mark that a byte is alone.
+    fn alone_at(self, at: usize, byte: u8) -> Option<Span>
+        ensures { result ≡ alone self.begun at byte }
+    {
+        if self.stays(byte) || byte.is_ascii_digit() || byte == b' ' {
+            None
+        } else {
+            Some(Span {
+                start: at,
+                length: 1,
+            })
+        }
     }
 }
 
@@ -71,13 +79,13 @@ pub fn cut(text: &[u8], heap: Global) -> Result<Vec<Span>, AllocError>
     ensures { IfOk result (λ spans. spans.items ≡ spans_in text.now) }
 {
     let mut spans = Vec::new(heap);
-    // A label goes over many bytes, so its first place is carried along.
-    let mut begun = None;
+    // A label goes over many bytes, so it is carried along.
+    let mut open = Open { begun: None };
     for (at, &byte) in text.iter().enumerate() {
-        spans.extend(ended_before(begun, at, byte))?;
-        spans.extend(alone_at(begun, at, byte))?;
-        begun = next_begun(begun, at, byte);
+        spans.extend(open.ended_before(at, byte))?;
+        spans.extend(open.alone_at(at, byte))?;
+        open = open.behind(at, byte);
     }
-    spans.extend(ended_at(begun, text.len()))?;
+    spans.extend(open.ended_at(text.len()))?;
     Ok(spans)
 }

@@ -6,3 +6,4 @@ pub mod fault;
 pub mod mark;
 pub mod matches;
 pub mod read;
+mod text;

@@ -1,13 +1,9 @@
-ghost use Rattle.std.specs.Prelude.{◌≡◌, map, IfOk};
-ghost use Rattle.std.specs.List.{filter_map};
-ghost use Rattle.event.specs.Spans.{spanned};
+ghost use Rattle.std.specs.Prelude.{◌≡◌};
 ghost use Rattle.expression.specs.Marks.{sign_of, mark_of, leaf_of};
 
 use event::kind::Kind;
-use event::span::{Span, part};
 use grammar::mark::Mark;
 use regular::label::Label;
-use std::alloc::{AllocError, Global};
 
 // The mark that a byte is alone; marks are told by their characters.
 fn sign(byte: u8) -> Mark
@@ -25,19 +21,19 @@ fn sign(byte: u8) -> Mark
     }
 }
 
-// The mark of some bytes.
-fn mark_of<K: Kind>(bytes: &[u8]) -> Mark
+// The mark of some bytes: a leaf where something stands at it, or else what the first byte is alone.
+pub(crate) fn mark_of<K: Kind>(bytes: &[u8]) -> Mark
     ensures { result ≡ mark_of K.Kind.labelled bytes.now }
 {
-    match bytes {
-        [b'0'..=b'9', ..] => K::read_label(bytes).map_or(Mark::Other, |_| Mark::Leaf),
-        [first, ..] => sign(*first),
-        [] => Mark::Other,
+    match (leaf_of::<K>(bytes), bytes) {
+        (Some(_), _) => Mark::Leaf,
+        (None, [first, ..]) => sign(*first),
+        (None, []) => Mark::Other,
     }
 }
 
-// What stands at the leaf that some bytes are. Not one function with `mark_of`: the two answer different things of the same bytes.
-fn leaf_of<K: Kind>(bytes: &[u8]) -> Option<Label<K>>
+// What stands at the leaf that some bytes are.
+pub(crate) fn leaf_of<K: Kind>(bytes: &[u8]) -> Option<Label<K>>
     ensures { result ≡ leaf_of K.Kind.labelled bytes.now }
 {
     match bytes {
@@ -45,32 +41,4 @@ fn leaf_of<K: Kind>(bytes: &[u8]) -> Option<Label<K>>
         [b'.', ..] => Some(Label::Any),
         _ => None,
     }
-}
-
-// The marks of a text that was cut.
-pub(crate) fn marks_at<K: Kind>(
-    text: &[u8],
-    spans: &[Span],
-    heap: Global,
-) -> Result<Vec<Mark>, AllocError>
-    ensures { IfOk result (λ marks. marks.items ≡ map (λ s. mark_of K.Kind.labelled (spanned text.now s)) spans.now) }
-{
-    spans
-        .iter()
-        .map(|span| mark_of::<K>(part(text, *span)))
-        .collect(heap)
-}
-
-// What stands at the leaves of a text that was cut.
-pub(crate) fn leaves_at<K: Kind>(
-    text: &[u8],
-    spans: &[Span],
-    heap: Global,
-) -> Result<Vec<Label<K>>, AllocError>
-    ensures { IfOk result (λ leaves. leaves.items ≡ filter_map (λ s. leaf_of K.Kind.labelled (spanned text.now s)) spans.now) }
-{
-    spans
-        .iter()
-        .filter_map(|span| leaf_of::<K>(part(text, *span)))
-        .collect(heap)
 }

@@ -1,4 +1,3 @@
-pub mod Tables
 pub mod Numbers
 pub mod Steps
 pub mod Parts

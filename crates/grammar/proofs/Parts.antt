@@ -16,7 +16,7 @@ use Rattle.grammar.specs.declared.mark.ReadFault.TheVariants.{Mark as MarkFault,
 use Rattle.grammar.specs.Grammar.{At, Sort, expression, term, factor, atom, Reads, lone_term, bar, lone_factor, next, lone_atom, starred, plussed, optional, leaf, bracket}
 use Rattle.grammar.specs.Faults.{state, fits, wrong, fault_at, fault_of}
 use Rattle.grammar.specs.Readings.{Added, LeafAdded, NoRoom, NoLeaf, mark_level, Reading, Gives, Refuses, Read, repeat_of, Whole}
-use Rattle.grammar.proofs.Tables.{tree_at, tree_kept, grown_on}
+use Rattle.regular.proofs.Nodes.{tree_at, tree_kept, grown_on}
 use Rattle.grammar.proofs.Steps.{none_such, fault_goes, fault_large, fault_unfit, fault_end, fault_none, fault_begins, closes, closed}
 
 -- what is known of the mark behind a part

@@ -15,6 +15,7 @@ use std::alloc::{AllocError, Global};
 #[derive(Drop)]
 pub struct Expression<K> {
     labels: Vec<Label<K>>,
+    // No call reads the table: it is what the contracts mean by the expression.
     rooted: Rooted,
     automaton: Automaton,
     ghost ordered: { is_numbered (rooted_tree rooted) 0 ≡ true },

@@ -6,7 +6,7 @@ use event::order::Order;
 
 /// What stands at a leaf: a dot, which any one event meets, or a label's event.
 // an enum and no `Option`: a text may be no leaf at all, and `Option<Option<K>>` would say less than `Option<Label<K>>`
-#[derive(Clone, Copy)]
+#[derive(Clone, Copy, Debug, PartialEq, Eq)]
 pub enum Label<K> {
     Any,
     Event(K),

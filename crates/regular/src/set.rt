@@ -5,7 +5,7 @@ ghost use Rattle.regular.specs.Members.{member, Empty, IsUnion, TakesOut};
 use std::ops::{BitOr, BitOrAssign};
 
 /// A set of places below 64, with a bit for each.
-#[derive(Clone, Copy, PartialEq, Eq)]
+#[derive(Clone, Copy, Debug, PartialEq, Eq)]
 pub(crate) struct Places {
     bits: u64,
 }

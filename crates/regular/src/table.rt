@@ -23,6 +23,8 @@ pub struct Rooted {
 }
 
 impl Table {
+    // Each asks for a node of the table: a borrowed node with this as its invariant would be made anew, and the bound shown, for each node below it.
+
     // The node n.
     fn node(&self, n: usize) -> Node
         requires { n < length self.now.nodes.items }
@@ -74,6 +76,7 @@ impl Table {
     }
 
     // Adds the steps within the node n: to each place, the places that may stand right behind it.
+    // The bound on the row stands here and at `link`: a struct of the row would hold it, and ask for it where it is made.
     pub(crate) fn follows(&self, n: usize, follow: &mut [Places])
         requires within { n < length self.now.nodes.items }
         requires few { length follow.old ≤ 60 }

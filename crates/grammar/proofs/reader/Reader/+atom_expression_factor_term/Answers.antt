@@ -5,7 +5,7 @@ use Rattle.grammar.specs.declared.mark.Mark.{Mark}
 use Rattle.grammar.specs.declared.mark.Mark.TheVariants.{Leaf, Open, Close, Bar}
 use Rattle.grammar.specs.Grammar.{At, expression, term, atom}
 use Rattle.grammar.specs.Readings.{repeat_of}
-use Rattle.grammar.proofs.Tables.{grown_on}
+use Rattle.regular.proofs.Nodes.{grown_on}
 use Rattle.grammar.proofs.Parts.{at_next, begins_atom, gives_in, refuses_in, reading_as_far, gives_as_far, repeats, refused, read_added, gives_lone_term, gives_lone_factor, gives_factor, reading_lone_atom, fault_bar, fault_next, fault_open, gives_bar, gives_next, reading_repeat, gives_leaf, gives_bracket, refuses_on, refuses_leaf, refuses_open, no_atom, unclosed}
 use Rattle.grammar.proofs.reader.Reader.+atom_expression_factor_term.Goals as goal
 
