@@ -1,9 +1,11 @@
-ghost use Rattle.std.specs.Prelude.{◌≡◌, ℕ, ◌<◌, List, [], ◌++◌, length, vec_len, OnOk};
+ghost use Rattle.std.specs.Prelude.{◌≡◌, ℕ, ◌-◌, ◌<◌, List, [], ◌++◌, length, vec_len, OnOk};
 ghost use Rattle.event.specs.Rows.{written, laid};
 ghost use Rattle.report.specs.Lines.{text_of};
+ghost use Rattle.report.specs.Texts.{head_text};
 
 use crate::fault::ListerFault;
 use crate::text::{write_end, write_head, write_pattern, write_refused};
+use bundle::tape::Tapes;
 use event::kind::Kind;
 use event::refusal::Refusal;
 use query::line::Query;
@@ -69,23 +71,7 @@ fn grow(row: &mut Vec<u8>) -> Result<(), AllocError>
     row.resize(row.len() + GROWTH, 0)
 }
 
-// Appends a line to a text. The row is where it is written first, and grows to the longest line.
-fn append<K: Kind>(
-    line: &Line<'_, K>,
-    row: &mut Vec<u8>,
-    text: &mut Vec<u8>,
-) -> Result<(), AllocError>
-    ensures { OnOk result (text.new.items ≡ text.old.items ++ text_of K.Kind.label line.now) }
-{
-    loop {
-        match line.write(row.as_mut_slice()) {
-            Ok(count) => return text.extend_from_slice(&row[..count]),
-            Err(_) => grow(row)?,
-        }
-    }
-}
-
-/// A text of lines, with the row where each line is written first.
+/// A text of lines, with the row where each line is written first, which grows to the longest line.
 #[derive(Drop)]
 pub struct Page {
     text: Vec<u8>,
@@ -113,7 +99,28 @@ impl Page {
     pub fn append<K: Kind>(&mut self, line: &Line<'_, K>) -> Result<(), AllocError>
         ensures { OnOk result (self.new ≡ self.old ++ text_of K.Kind.label line.now) }
     {
-        append(line, &mut self.row, &mut self.text)
+        loop {
+            match line.write(self.row.as_mut_slice()) {
+                Ok(count) => return self.text.extend_from_slice(&self.row[..count]),
+                Err(_) => grow(&mut self.row)?,
+            }
+        }
+    }
+
+    /// Appends the line of what was read: the counts of the tapes and of their events, and the numbers of the query.
+    pub fn append_head<K: Kind>(
+        &mut self,
+        tapes: &Tapes<'_, K>,
+        query: &Query,
+    ) -> Result<(), AllocError>
+        ensures { OnOk result (self.new ≡ self.old ++ head_text (length tapes.now.offsets.now - 1) (length tapes.now.events.now) query.now.threshold query.now.longest) }
+    {
+        let head: Line<'_, K> = Line::Head {
+            tapes: tapes.offsets.len().saturating_sub(1),
+            events: tapes.events.len(),
+            query,
+        };
+        self.append(&head)
     }
 
     /// The text.
