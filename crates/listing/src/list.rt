@@ -24,12 +24,7 @@ impl Contents for Supports {
         _blank: K,
         page: &mut Page,
     ) -> Result<(), ListError> {
-        let head: Line<'_, K> = Line::Head {
-            tapes: rows.tapes.offsets.len().saturating_sub(1),
-            events: rows.tapes.events.len(),
-            query,
-        };
-        page.append(&head)?;
+        page.append_head(&rows.tapes, query)?;
         for pattern in rows.lexicon.chunks(1) {
             let support = support_of(&rows.tapes, pattern)?;
             page.append(&Line::Pattern { support, pattern })?;
@@ -39,6 +34,7 @@ impl Contents for Supports {
 }
 
 /// The answer to an input: its list, or the line of the refusal.
+// A function of its own beside the generic one: this promise names its list.
 pub fn reply_to(heap: Global, input: &[u8]) -> Result<Reply, AllocError>
     ensures text { IfOk result (λ x. x.text.items ≡ reply_text input.now) }
     ensures refused { IfOk result (λ x. x.refused ≡ is_some (fault_in input.now)) }
