@@ -40,6 +40,7 @@ impl Contents for Patterns {
 }
 
 /// The answer to an input: its list, or the line of the refusal.
+// A function of its own beside the generic one: this promise names its list.
 pub fn reply_to(heap: Global, input: &[u8]) -> Result<Reply, AllocError>
     ensures text { IfOk result (λ x. x.text.items ≡ reply_text input.now) }
     ensures refused { IfOk result (λ x. x.refused ≡ is_some (fault_in input.now)) }

@@ -82,13 +82,9 @@ pub(crate) fn append_opened<'a, K: Kind>(
     requires { Stands K.Kind.order session.old (Opened (opening_of opening.now) ∷ []) }
     ensures { OnOk result (page.new ≡ page.old ++ (head_text (length (opening_of opening.now).offsets - 1) (length (opening_of opening.now).events) query.now.threshold query.now.longest ++ session_text K.Kind.order K.Kind.label (opening_of opening.now))) }
 {
-    let head: Line<'_, K> = Line::Head {
-        tapes: opening.tapes.count(),
-        events: opening.tapes.events.len(),
-        query,
-    };
-    page.append(&head)?;
+    page.append_head(&opening.tapes, query)?;
     append_patterns(heap, opening, session, page)?;
+    // the session stands at END, so this is not refused, and no refusal is handed up as one more way to end
     let Ok((_, count)) = session.tell() else {
         return Ok(());
     };

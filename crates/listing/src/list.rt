@@ -24,12 +24,7 @@ impl Contents for Supports {
         _blank: K,
         page: &mut Page,
     ) -> Result<(), ListError> {
-        let head: Line<'_, K> = Line::Head {
-            tapes: rows.tapes.count(),
-            events: rows.tapes.events.len(),
-            query,
-        };
-        page.append(&head)?;
+        page.append_head(&rows.tapes, query)?;
         for pattern in rows.lexicon.chunks(1) {
             let support = support_of(&rows.tapes, pattern)?;
             page.append(&Line::Pattern { support, pattern })?;
@@ -39,6 +34,7 @@ impl Contents for Supports {
 }
 
 /// The answer to an input: its list, or the line of the refusal.
+// A function of its own beside the generic one: this promise names its list.
 pub fn reply_to(heap: Global, input: &[u8]) -> Result<Reply, AllocError>
     ensures text { IfOk result (λ x. x.text.items ≡ reply_text input.now) }
     ensures refused { IfOk result (λ x. x.refused ≡ is_some (fault_in input.now)) }
@@ -46,7 +42,7 @@ pub fn reply_to(heap: Global, input: &[u8]) -> Result<Reply, AllocError>
     answer::reply_to::<Supports>(heap, input)
 }
 
-/// What is wrong with a bundle file is wrong with its bytes or with the lexicon that is learned from it.
+/// A bundle whose lexicon was learned is not refused.
 pub fn only_learning<K: Kind>() -> u8
     ensures { OnlyLearning K.Kind.NUMBER K.Kind.WIDTH K.Kind.stands K.Kind.order }
 {

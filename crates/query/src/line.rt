@@ -1,7 +1,9 @@
 ghost use Rattle.std.specs.Prelude.{◌≡◌, ℕ, ◌+◌, ◌<◌, ◌≤◌, ◌↔◌, length, take, drop, IsSome, IfSome};
+ghost use Rattle.query.specs.Faults.{query_refusal, query_span};
 ghost use Rattle.query.specs.Queries.{before, digits_to, query_in, or_line, QueryStands};
 
 use event::decimal::read_digits;
+use event::refusal::Refusal;
 use event::span::Span;
 
 /// What the query line asks for: a threshold, a longest length, and where the expression's text is in the line.
@@ -21,6 +23,25 @@ pub enum QueryFault {
     Line,
 }
 
+impl QueryFault {
+    /// The refusal that this fault is.
+    pub fn refusal(&self) -> Refusal
+        ensures { result ≡ query_refusal self.now }
+    {
+        match self {
+            QueryFault::Input => Refusal::Input,
+            QueryFault::Line => Refusal::Query,
+        }
+    }
+
+    /// Where in the line the bytes at fault are: no fault of a query names any.
+    pub fn span(&self) -> Option<Span>
+        ensures { result ≡ query_span self.now }
+    {
+        None
+    }
+}
+
 /// How many bytes stand before the first of a value, or all where there is none.
 pub fn count_before(value: u8, bytes: &[u8]) -> usize
     ensures value { result ≡ before value bytes.now }
@@ -32,14 +53,14 @@ pub fn count_before(value: u8, bytes: &[u8]) -> usize
         .unwrap_or(bytes.len())
 }
 
-// What stands before the first space and what stands behind it, if there is one.
-fn split_at_space(bytes: &[u8]) -> Option<(&[u8], &[u8])>
-    ensures some { IsSome result ↔ (before 32 bytes.now < length bytes.now) }
-    ensures front { IfSome result (λ p. p.0.now ≡ take (before 32 bytes.now) bytes.now) }
-    ensures behind { IfSome result (λ p. p.1.now ≡ drop (before 32 bytes.now + 1) bytes.now) }
+/// What stands before the first of a value and what stands behind it, if there is one.
+pub fn split_once_at(value: u8, bytes: &[u8]) -> Option<(&[u8], &[u8])>
+    ensures some { IsSome result ↔ (before value bytes.now < length bytes.now) }
+    ensures front { IfSome result (λ p. p.0.now ≡ take (before value bytes.now) bytes.now) }
+    ensures behind { IfSome result (λ p. p.1.now ≡ drop (before value bytes.now + 1) bytes.now) }
 {
-    let (front, rest) = bytes.split_at(count_before(b' ', bytes));
-    let (_space, behind) = rest.split_first()?;
+    let (front, rest) = bytes.split_at(count_before(value, bytes));
+    let (_value, behind) = rest.split_first()?;
     Some((front, behind))
 }
 
@@ -57,8 +78,8 @@ fn read_field(bytes: &[u8], digits: usize, most: u16) -> Option<u16>
 fn find_query(line: &[u8]) -> Option<Query>
     ensures { result ≡ query_in line.now }
 {
-    let (threshold, rest) = split_at_space(line)?;
-    let (longest, text) = split_at_space(rest)?;
+    let (threshold, rest) = split_once_at(b' ', line)?;
+    let (longest, text) = split_once_at(b' ', rest)?;
     Some(Query {
         threshold: read_field(threshold, 3, 999)?.into(),
         longest: read_field(longest, 2, 99)?.into(),

@@ -4,7 +4,7 @@ ghost use Rattle.reply.specs.Outcomes.{Outcome};
 ghost use Rattle.reply.specs.Replies.{fault_in, list_text, reply_text};
 
 use crate::contents::{Contents, ListError};
-use crate::input::{FileKind, bundle_part, file_kind, query_line, read_request};
+use crate::input::{FileKind, file_kind, read_request, split_input};
 use crate::reading::append_file;
 use event::scanner::Scanner;
 use event::station::Station;
@@ -24,8 +24,7 @@ const STATION: Station = Station {
 fn append_list<C: Contents>(heap: Global, input: &[u8], page: &mut Page) -> Result<(), ListError>
     ensures { Outcome (fault_in C.listed input.now) page.old (list_text C.listed (requested input.now) (kind_for (bundle_part input.now)) (bundle_part input.now)) page.new result }
 {
-    let query = read_request(input)?;
-    let file = bundle_part(input);
+    let (query, file) = read_request(input)?;
     match file_kind(file)? {
         FileKind::Scanner => append_file::<C, Scanner>(heap, &query, file, SCANNER, page),
         FileKind::Station => append_file::<C, Station>(heap, &query, file, STATION, page),
@@ -49,10 +48,11 @@ pub fn reply_to<C: Contents>(heap: Global, input: &[u8]) -> Result<Reply, AllocE
     let refused = match append_list::<C>(heap, input, &mut page) {
         Ok(()) => false,
         Err(ListError::Refused(fault)) => {
+            let (query, bundle) = split_input(input);
             let line: Line<'_, Scanner> = Line::Refused {
                 fault: &fault,
-                query: query_line(input),
-                bundle: bundle_part(input),
+                query,
+                bundle,
             };
             page.append(&line)?;
             true

@@ -15,7 +15,7 @@ use report::output::Page;
 use std::alloc::{AllocError, Global};
 
 /// Why there is no list: a refusal, or want of memory.
-#[derive(Clone, Copy)]
+#[derive(Clone, Copy, Debug, PartialEq, Eq)]
 pub enum ListError {
     Refused(ListerFault),
     Memory,
@@ -66,6 +66,8 @@ impl From<AllocError> for ListError {
 pub trait Contents {
     // Why it is refused, if it is, and its lines.
     ghost listed: { Listed };
+
+    // The heap goes beside the page: a page is seen as its text alone, so a call that handed out its heap could promise nothing of it.
 
     /// Appends the lines to a page; a refused list leaves it. The session of a list is made with the blank event, any one.
     fn append<K: Kind>(

@@ -1,45 +1,41 @@
-ghost use Rattle.std.specs.Prelude.{◌≡◌};
+ghost use Rattle.std.specs.Prelude.{◌≡◌, Ok, Err, IfOk, IfErr};
 ghost use Rattle.reply.specs.Inputs.{query_line, bundle_part, requested, kind_numbered, kind_for};
 
 use bundle::fault::BundleFault;
 use event::kind::Kind;
 use event::scanner::Scanner;
 use event::station::Station;
-use query::line::{Query, QueryFault, count_before, read_query};
+use query::line::{Query, QueryFault, read_query, split_once_at};
 
 /// The most bytes that the lister takes.
 pub const MOST_INPUT: usize = 32_768;
 
-/// The query line: what stands before the first line feed, or all.
-pub(crate) fn query_line(input: &[u8]) -> &[u8]
-    ensures { result.now ≡ query_line input.now }
+/// The query line and the bundle: what stands before the first line feed, or all, and what stands behind it.
+pub(crate) fn split_input(input: &[u8]) -> (&[u8], &[u8])
+    ensures line { result.0.now ≡ query_line input.now }
+    ensures bundle { result.1.now ≡ bundle_part input.now }
 {
-    &input[..count_before(b'\n', input)]
+    match split_once_at(b'\n', input) {
+        Some(parts) => parts,
+        None => (input, &[]),
+    }
 }
 
-/// The bundle: what stands behind that line feed.
-pub(crate) fn bundle_part(input: &[u8]) -> &[u8]
-    ensures { result.now ≡ bundle_part input.now }
-{
-    let end = count_before(b'\n', input);
-    input.get(end + 1..).unwrap_or(&[])
-}
-
-/// The query of an input that is not too long.
-pub(crate) fn read_request(input: &[u8]) -> Result<Query, QueryFault>
-    ensures { result ≡ requested input.now }
+/// The query of an input that is not too long and has a line feed, and the bundle behind that.
+pub(crate) fn read_request(input: &[u8]) -> Result<(Query, &[u8]), QueryFault>
+    ensures query { IfOk result (λ x. requested input.now ≡ Ok x.0) }
+    ensures bundle { IfOk result (λ x. x.1.now ≡ bundle_part input.now) }
+    ensures fault { IfErr result (λ f. requested input.now ≡ Err f) }
 {
     if input.len() > MOST_INPUT {
         return Err(QueryFault::Input);
     }
-    if count_before(b'\n', input) >= input.len() {
-        return Err(QueryFault::Line);
-    }
-    read_query(query_line(input))
+    let (line, bundle) = split_once_at(b'\n', input).ok_or(QueryFault::Line)?;
+    Ok((read_query(line)?, bundle))
 }
 
 /// A kind that the lister knows.
-#[derive(Clone, Copy)]
+#[derive(Clone, Copy, Debug, PartialEq, Eq)]
 pub(crate) enum FileKind {
     Scanner,
     Station,

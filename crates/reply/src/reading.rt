@@ -23,6 +23,7 @@ pub(crate) fn append_file<C: Contents, K: Kind>(
 ) -> Result<(), ListError>
     ensures { Outcome (reading_fault C.listed K.Kind.NUMBER K.Kind.WIDTH K.Kind.stands K.Kind.order query.now file.now) page.old (kind_text C.listed K.Kind.WIDTH K.Kind.stands K.Kind.order K.Kind.label query.now file.now) page.new result }
 {
+    // rows with their counts beside them: reading and learning write at a row's front
     let mut offsets = vec![in heap; 0u32; MOST_TAPES + 1]?;
     let mut events = vec![in heap; blank; MOST_EVENTS]?;
     let mut lexicon = vec![in heap; blank; MOST_LEXICON]?;

@@ -6,17 +6,11 @@ use Rattle.event.specs.declared.refusal.Refusal.TheVariants as refusal
 use Rattle.event.specs.declared.span.Span.{Span}
 use Rattle.event.specs.Spans.{span, spanned}
 use Rattle.bundle.specs.Faults as bundle
-use Rattle.query.specs.declared.line.QueryFault.{QueryFault}
-use Rattle.query.specs.declared.line.QueryFault.TheVariants.{Input, Line}
+use Rattle.query.specs.Faults.{query_refusal, query_span}
 use Rattle.report.specs.declared.fault.ListerFault.{ListerFault}
 use Rattle.report.specs.declared.fault.ListerFault.TheVariants.{Query, Bundle, Session}
 use Rattle.report.specs.declared.fault.Source.{Source}
 use Rattle.report.specs.declared.fault.Source.TheVariants as source
-
--- the refusal that a query's fault is
-abbrev pub query_refusal : QueryFault → Refusal
-query_refusal Input = refusal.Input
-query_refusal Line = refusal.Query
 
 -- the refusal that a fault is
 abbrev pub refusal_of : ListerFault → Refusal
@@ -50,7 +44,7 @@ source_of (Session r) = refused_source r
 
 -- where there, if at some bytes
 abbrev pub span_of : ListerFault → Option Span
-span_of (Query f) = None
+span_of (Query f) = query_span f
 span_of (Bundle f) = bundle.span_of f
 span_of (Session r) = None
 

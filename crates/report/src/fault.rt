@@ -11,7 +11,7 @@ use line::piece::Word;
 use query::line::QueryFault;
 
 /// Why the lister refuses: the fault of the layer below, whole.
-#[derive(Clone, Copy)]
+#[derive(Clone, Copy, Debug, PartialEq, Eq)]
 pub enum ListerFault {
     Query(QueryFault),
     Bundle(BundleFault),
@@ -20,7 +20,7 @@ pub enum ListerFault {
 }
 
 /// The part of the input that a fault speaks of.
-#[derive(Clone, Copy)]
+#[derive(Clone, Copy, Debug, PartialEq, Eq)]
 pub enum Source {
     Query,
     Bundle,
@@ -74,15 +74,14 @@ fn refused_source(refusal: Refusal) -> Source
 }
 
 impl ListerFault {
-    // The faults of all layers are asked by the same two methods.
+    // The faults of the query and of the bundle have these two methods too, and no trait: nothing is generic over a fault.
 
     /// The refusal that this fault is.
     pub fn refusal(&self) -> Refusal
         ensures { result ≡ refusal_of self.now }
     {
         match self {
-            ListerFault::Query(QueryFault::Input) => Refusal::Input,
-            ListerFault::Query(QueryFault::Line) => Refusal::Query,
+            ListerFault::Query(fault) => fault.refusal(),
             ListerFault::Bundle(fault) => fault.refusal(),
             ListerFault::Session(refusal) => *refusal,
         }
@@ -104,7 +103,7 @@ impl ListerFault {
         ensures { result ≡ span_of self.now }
     {
         match self {
-            ListerFault::Query(_) => None,
+            ListerFault::Query(fault) => fault.span(),
             ListerFault::Bundle(fault) => fault.span(),
             ListerFault::Session(_) => None,
         }

@@ -1,9 +1,11 @@
-ghost use Rattle.std.specs.Prelude.{◌≡◌, ℕ, ◌<◌, List, [], ◌++◌, length, vec_len, OnOk};
+ghost use Rattle.std.specs.Prelude.{◌≡◌, ℕ, ◌-◌, ◌<◌, List, [], ◌++◌, length, vec_len, OnOk};
 ghost use Rattle.event.specs.Rows.{written, laid};
 ghost use Rattle.report.specs.Lines.{text_of};
+ghost use Rattle.report.specs.Texts.{head_text};
 
 use crate::fault::ListerFault;
 use crate::text::{write_end, write_head, write_pattern, write_refused};
+use bundle::tape::Tapes;
 use event::kind::Kind;
 use event::refusal::Refusal;
 use query::line::Query;
@@ -11,7 +13,7 @@ use std::alloc::{AllocError, Global};
 use std::marker::Model;
 
 /// A line that the lister writes.
-#[derive(Clone, Copy)]
+#[derive(Clone, Copy, Debug, PartialEq, Eq)]
 pub enum Line<'a, K> {
     /// What was read.
     Head {
@@ -114,6 +116,22 @@ impl Page {
         ensures { OnOk result (self.new ≡ self.old ++ text_of K.Kind.label line.now) }
     {
         append(line, &mut self.row, &mut self.text)
+    }
+
+    /// Appends the line of what was read: the counts of the tapes and of their events, and the numbers of the query.
+    pub fn append_head<K: Kind>(
+        &mut self,
+        tapes: &Tapes<'_, K>,
+        query: &Query,
+    ) -> Result<(), AllocError>
+        ensures { OnOk result (self.new ≡ self.old ++ head_text (length tapes.now.offsets.now - 1) (length tapes.now.events.now) query.now.threshold query.now.longest) }
+    {
+        let head: Line<'_, K> = Line::Head {
+            tapes: tapes.count(),
+            events: tapes.events.len(),
+            query,
+        };
+        self.append(&head)
     }
 
     /// The text.

@@ -28,19 +28,19 @@ returns g c =
     let was = c.args.page.now in
     let query = c.args.query.now in
     let s = c.append_patterns.new.session in
-    let first = c.append.new.self in
+    let first = c.append_head.new.self in
     let second = c.append_patterns.new.page in
-    let third = c.append-2.new.self in
+    let third = c.append.new.self in
     let tapes = length o.offsets - 1 in
     let count = min (length (listed order o)) most_counted in
-    let head = λ (n : ℕ). head_text n (length o.events) query.threshold query.longest in
+    let head = head_text tapes (length o.events) query.threshold query.longest in
     let read = c.in_ok-append_patterns.ensures in
-    let begun : first ≡ was ++ head tapes = c.in_ok-append.ensures ∙ ap (λ (n : ℕ). was ++ head n) c.count.ensures in
+    let begun : first ≡ was ++ head = c.in_ok-append_head.ensures in
     let list = whole_text order o label s first second read in
     let told : c.in-Ok.count ≡ count = same_second c.tell.result _ s.threshold c.in-Ok.count count c.in-Ok.is (whole_told order o label s first second read c.tell.result c.tell.ensures.answer) in
-    IfOk-weaker c.append-2.result (λ u. third ≡ second ++ end_text c.in-Ok.count) (λ u. third ≡ was ++ (head tapes ++ session_text order label o))
-    (λ u e. appended was (head tapes) (flat_map (listed_text order label o) (listed order o)) (end_text count) first second third begun list (e ∙ ap (λ (n : ℕ). second ++ end_text n) told))
-    c.append-2.ensures
+    IfOk-weaker c.append.result (λ u. third ≡ second ++ end_text c.in-Ok.count) (λ u. third ≡ was ++ (head ++ session_text order label o))
+    (λ u e. appended was head (flat_map (listed_text order label o) (listed order o)) (end_text count) first second third begun list (e ∙ ap (λ (n : ℕ). second ++ end_text n) told))
+    c.append.ensures
 
 pub returns-in_default : goal.returns-in_default
 returns-in_default g c =
@@ -48,4 +48,4 @@ returns-in_default g c =
     let read = c.in_ok-append_patterns.ensures in
     absurd
     (c.in_default.not-Ok _
-    (whole_told g.K.Kind.order (opening_of c.args.opening.now) g.K.Kind.label s (c.append.new.self) (c.append_patterns.new.page) read c.tell.result c.tell.ensures.answer))
+    (whole_told g.K.Kind.order (opening_of c.args.opening.now) g.K.Kind.label s (c.append_head.new.self) (c.append_patterns.new.page) read c.tell.result c.tell.ensures.answer))

@@ -25,8 +25,8 @@ loop-pattern-preserved g c =
     let was = c.loop-pattern.page in
     let s = c.in-Some.ensures.steps in
     let n : c.in_ok-support.support ≡ support order ts p = answered (bundle_refusal (length rows.tapes.events.now) rows.tapes.offsets.now) c.in_ok-support.support (support order ts p) rows.accepted (sym c.in_ok-support.was ∙ c.support_of.ensures) in
-    let more = c.in_ok-append-2.ensures ∙ ap (λ (k : ℕ). was ++ pattern_text label k p) n in (
-      more_text order label ts p (chunks_rest c.next.new.self) was c.append-in-loop-pattern.new.self (omega (arith, s.1.1)) more
+    let more = c.in_ok-append.ensures ∙ ap (λ (k : ℕ). was ++ pattern_text label k p) n in (
+      more_text order label ts p (chunks_rest c.next.new.self) was c.append.new.self (omega (arith, s.1.1)) more
           ∙ ap (λ (l : List _). was ++ flat_map (event_text order label ts) l) (sym s.1.0)
           ∙ c.loop-pattern.invariant.0,
       s.0 ∙ c.loop-pattern.invariant.1,
