@@ -6,6 +6,13 @@ use std::process::Abort;
 use std::test::Fail;
 use trials::worked_bundle;
 
+// A bundle of stations: one tape of 12:d, station 7, and 12:t, station 9.
+pub(crate) fn station_bundle() -> &'static [u8; 24] {
+    b"\x00\x02\x00\x01\x00\x00\x00\x02\x00\x00\x00\x00\x00\x00\x00\x02\x0C\x00\x00\x07\x0C\x02\x00\x09"
+}
+
+// Functions and no struct of what they share: that `reply_to` can be called would stand at each of its methods too.
+
 // Holds the reply to a query line and a bundle to a text.
 pub(crate) fn answers<F: Fn(Global, &[u8]) -> Result<Reply, AllocError>>(
     rt: &impl Abort,

@@ -1,4 +1,6 @@
-use crate::answers::{answers, refuses_bundles, refuses_query_lines, refuses_too_much};
+use crate::answers::{
+    answers, refuses_bundles, refuses_query_lines, refuses_too_much, station_bundle,
+};
 use listing::list::reply_to;
 use std::test::Fail;
 use trials::worked_bundle;
@@ -19,15 +21,13 @@ fn the_worked_bundle_is_listed(rt: HostRuntime) -> Result<(), Fail> {
 
 #[test]
 fn stations_are_listed(rt: HostRuntime) -> Result<(), Fail> {
-    let bundle =
-        b"\x00\x02\x00\x01\x00\x00\x00\x02\x00\x00\x00\x00\x00\x00\x00\x02\x0C\x00\x00\x07\x0C\x02\x00\x09";
     let text = b"tapes 1 events 2 threshold 1 length 16\n1 12:d\n1 12:t\n";
     answers(
         &rt,
         rt.alloc(),
         &reply_to,
         b"001 16 \n",
-        bundle,
+        station_bundle(),
         text,
         false,
     )

@@ -19,7 +19,7 @@ const THIRTY: Scanner = Scanner { code: 30 };
 
 const FORTY: Scanner = Scanner { code: 40 };
 
-// The worked bundle's rows, and its lexicon.
+// The worked bundle's rows, and its lexicon, written out: a session is tried on rows that no reader made.
 const EVENTS: [Scanner; 12] = [
     TEN, TWENTY, TEN, THIRTY, TEN, THIRTY, FORTY, TWENTY, TEN, THIRTY, TEN, TWENTY,
 ];
