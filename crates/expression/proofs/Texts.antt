@@ -10,7 +10,6 @@ use Rattle.grammar.specs.Faults.{fault_of}
 use Rattle.grammar.specs.Grammar.{Reads, expression}
 use Rattle.grammar.specs.Readings.{Whole, NotWhole}
 use Rattle.expression.specs.declared.matches.Matches.{Matches}
-use Rattle.expression.specs.Cuts.{spans_in}
 use Rattle.expression.specs.Marks.{marks_in, leaves_in}
 use Rattle.expression.specs.Faults.{placed, text_fault, error_at, ReadAs, NotRead}
 
@@ -18,13 +17,13 @@ module _ {K : Type 0} (labelled : List ℕ → Option K) (text : List ℕ) (smal
   faulty : text_fault labelled text ≡ placed text (fault_of (marks_in labelled text))
   faulty = cond-true _ (placed text (fault_of (marks_in labelled text))) (Some _) (le-leb (length text) 256 small)
 
-  of_marks : (f : ReadFault) → NotWhole (marks_in labelled text) f → NotRead labelled text (error_at (spans_in text) (length text) f)
+  of_marks : (f : ReadFault) → NotWhole (marks_in labelled text) f → NotRead labelled text (error_at text f)
   of_marks (MarkFault i) h = faulty ∙ ap (placed text) h
   of_marks LargeFault h = faulty ∙ ap (placed text) h.1
   of_marks NoMemory h = tt
 
-  pub not_read : (cut : List ℕ) (f : ReadFault) → cut ≡ text → NotWhole (marks_in labelled cut) f → NotRead labelled text (error_at (spans_in cut) (length cut) f)
-  not_read cut f e = subst (λ (t : List ℕ). NotWhole (marks_in labelled t) f → NotRead labelled text (error_at (spans_in t) (length t) f)) (sym e) (of_marks f)
+  pub not_read : (cut : List ℕ) (f : ReadFault) → cut ≡ text → NotWhole (marks_in labelled cut) f → NotRead labelled text (error_at cut f)
+  not_read cut f e = subst (λ (t : List ℕ). NotWhole (marks_in labelled t) f → NotRead labelled text (error_at t f)) (sym e) (of_marks f)
 
   whole_read : (ns : List Node) (root : ℕ) (m : Matches K) → tree_of m.expression ≡ tree ns root → Whole (marks_in labelled text) ns root → labels_of m.expression ≡ leaves_in labelled text → ReadAs labelled text m
   whole_read ns root m t w l =

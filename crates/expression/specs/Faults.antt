@@ -27,20 +27,20 @@ abbrev pub span_of : ExpressionFault → Option Span
 span_of (Mark s) = Some s
 span_of Size = None
 
--- the place of the mark with a number, or of the end behind the last
-abbrev pub span_at : List Span → ℕ → ℕ → Span
-span_at spans end i = slice_index_or spans i (span end 0)
+-- the place in a text of the mark with a number, or of the end behind the last
+abbrev pub span_at : List ℕ → ℕ → Span
+span_at text i = slice_index_or (spans_in text) i (span (length text) 0)
 
--- what a fault in the marks with these places is for their text
-abbrev pub error_at : List Span → ℕ → ReadFault → ReadError
-error_at spans end (MarkFault i) = Refused (Mark (span_at spans end i))
-error_at spans end LargeFault = Refused Size
-error_at spans end NoMemory = Memory
+-- what a fault in the marks of a text is for the text
+abbrev pub error_at : List ℕ → ReadFault → ReadError
+error_at text (MarkFault i) = Refused (Mark (span_at text i))
+error_at text LargeFault = Refused Size
+error_at text NoMemory = Memory
 
 -- the fault of a text whose marks have a fault
 abbrev pub placed : List ℕ → Option Fault → Option ExpressionFault
 placed text None = None
-placed text (Some (wrong i)) = Some (Mark (span_at (spans_in text) (length text) i))
+placed text (Some (wrong i)) = Some (Mark (span_at text i))
 placed text (Some (large i)) = Some Size
 
 module _ {K : Type 0} (labelled : List ℕ → Option K) where

@@ -21,7 +21,7 @@ pub(crate) struct CutText<'t> {
 }
 
 impl CutText<'_> {
-    ghost use Rattle.std.specs.Prelude.{length, IfOk, MatchResult};
+    ghost use Rattle.std.specs.Prelude.{IfOk, MatchResult};
     ghost use Rattle.grammar.specs.declared.mark.ReadFault.{ReadFault};
     ghost use Rattle.grammar.specs.Readings.{Whole, NotWhole};
     ghost use Rattle.expression.specs.Faults.{span_at, error_at};
@@ -57,7 +57,7 @@ impl CutText<'_> {
 
     // The place of the mark with a number, or of the end behind the last.
     fn span(&self, number: usize) -> Span
-        ensures { result ≡ span_at (spans_in self.now.text.now) (length self.now.text.now) number }
+        ensures { result ≡ span_at self.now.text.now number }
     {
         self.spans.get(number).copied().unwrap_or(Span {
             start: self.text.len(),
@@ -67,7 +67,7 @@ impl CutText<'_> {
 
     // What a fault in the marks is for the text.
     fn error(&self, fault: ReadFault) -> ReadError
-        ensures { result ≡ error_at (spans_in self.now.text.now) (length self.now.text.now) fault }
+        ensures { result ≡ error_at self.now.text.now fault }
     {
         match fault {
             ReadFault::Mark(number) => ExpressionFault::Mark(self.span(number)).into(),
@@ -78,7 +78,7 @@ impl CutText<'_> {
 
     // Reads the marks, and says of a fault what it is for the text.
     pub(crate) fn read<K: Kind>(&self, heap: Global) -> Result<Rooted, ReadError>
-        ensures { MatchResult result (λ r. Whole (marks_in K.Kind.labelled self.now.text.now) r.table.nodes.items r.root) (λ e. (f : ReadFault) × NotWhole (marks_in K.Kind.labelled self.now.text.now) f × (e ≡ error_at (spans_in self.now.text.now) (length self.now.text.now) f)) }
+        ensures { MatchResult result (λ r. Whole (marks_in K.Kind.labelled self.now.text.now) r.table.nodes.items r.root) (λ e. (f : ReadFault) × NotWhole (marks_in K.Kind.labelled self.now.text.now) f × (e ≡ error_at self.now.text.now f)) }
     {
         let marks = self.marks::<K>(heap)?;
         // By a match: of a closure over `self`, `map_err` tells a proof nothing.
