@@ -100,7 +100,11 @@ fn rows_are_checked(rt: HostRuntime) {
 #[test]
 fn the_trail_walks(rt: HostRuntime) {
     let lexicon = [TEN, TWENTY, THIRTY, FORTY];
-    let mut trail = Trail::open(tapes(), &lexicon);
+    let tapes = Tapes {
+        events: &EVENTS,
+        offsets: &OFFSETS,
+    };
+    let mut trail = Trail::open(tapes, &lexicon);
     assert_eq!(rt; trail.support(), 5);
     assert_eq!(rt; trail.deeper(0, 2), Some(4));
     assert_eq!(rt; trail.try_event(&TEN), 1);
