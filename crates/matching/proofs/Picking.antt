@@ -1,9 +1,8 @@
 -- The events at some places.
-use Rattle.std.proofs.Common.{◌≡◌, ℕ, zero, suc, ◌+◌, ◌-◌, ◌<◌, ◌≤◌, List, [], ◌∷◌, ◌++◌, length, get_or, take, drop, set, sym, refl, ap, ◌∙◌, ⊎_elim, append_assoc, length-append, arith}
+use Rattle.std.proofs.Common.{◌≡◌, ℕ, zero, suc, ◌+◌, ◌-◌, ◌<◌, ◌≤◌, List, [], ◌∷◌, ◌++◌, length, get_or, take, drop, set, sym, refl, ap, ◌∙◌, ⊎_elim, append_assoc, arith}
 use Rattle.std.proofs.lemmas.List.Edits.{length-insert, get_or-insert_below, get_or-insert_at, get_or-insert_above}
-use Rattle.std.proofs.lemmas.List.{length-set, length-take-le, length-drop, get_or-take, get_or_read, take_more, take_more_set, take-set-le, take-take, drop-take, drop-append-le}
+use Rattle.std.proofs.lemmas.List.{length-take-le, length-drop, get_or-take, get_or_read, ext_get_or, take_more, take-take, drop-take}
 use Rattle.std.proofs.lemmas.Slice.{take-put_mid}
-use Rattle.std.proofs.Math.Seq.{drop-append_seam, take-append_seam}
 use borrow.Rule.Slice.PartMut.{mid_of, put_mid}
 use Rattle.std.proofs.lemmas.Bool.{cases_order}
 use Rattle.std.specs.List.{insert}
@@ -33,42 +32,20 @@ within_inserted places n at p h b w k c =
     omega (arith, ap (λ (i : ℕ). get_or (insert places at p) i 0) s, get_or-insert_above places at p 0 (k - 1) (omega arith) h, w (k - 1) (omega arith))))
     (cases_order k at)
 
--- a row whose part from a place up to a new last one was turned by one, so that the last comes first
-module _ (before turned : List ℕ) (count at p : ℕ) (inside : at ≤ count) (room : count < length before) where
-  abbrev added : List ℕ
-  added = set before count p
-
-  abbrev part : List ℕ
-  part = mid_of at (count + 1 - at) added
-
-  -- the part that moves on, and the new last one
-  part_is : part ≡ drop at (take count before) ++ (p ∷ [])
-  part_is =
-      let whole : at + (count + 1 - at) ≡ count + 1 = omega arith in
-      let l = length-take-le count before (omega arith) in
-      sym (drop-take at (count + 1 - at) added)
-      ∙ ap (λ n. drop at (take n added)) whole
-      ∙ ap (drop at) (take_more_set before count p room)
-      ∙ drop-append-le at (take count before) (p ∷ []) (omega arith)
-
-  pub inserted : turned ≡ drop (length part - 1) part ++ take (length part - 1) part → take (count + 1) (put_mid at (count + 1 - at) added turned) ≡ insert (take count before) at p
-  inserted e =
-      let moved = drop at (take count before) in
-      let one = ap length part_is ∙ length-append moved (p ∷ []) in
-      let n : length part - 1 ≡ length moved = omega arith in
-      let first : turned ≡ p ∷ moved =
-      e
-      ∙ ap (λ k. drop k part ++ take k part) n
-      ∙ ap (λ l. drop (length moved) l ++ take (length moved) l) part_is
-      ∙ ap (λ l. l ++ take (length moved) (moved ++ (p ∷ []))) (drop-append_seam moved (p ∷ []))
-      ∙ ap (λ l. p ∷ l) (take-append_seam moved (p ∷ [])) in
-      let lt = length-take-le count before (omega arith) in
-      let ld = length-drop at (take count before) in
-      let lf = ap length first in
-      let ls = length-set before count p in
-      take-put_mid at (count + 1 - at) added turned (count + 1) (omega arith) (omega arith)
-      ∙ ap (λ l. l ++ turned) (take-set-le at before count p inside ∙ sym (take-take at count before inside))
-      ∙ ap (λ l. take at (take count before) ++ l) first
+-- a row whose part from a place up to a new last one was moved on by one, with another place put in front
+pub inserted : (before part : List ℕ) (count at p : ℕ) → at ≤ count → count < length before → length part ≡ count + 1 - at → ((k : ℕ) → k < length part → get_or part k 0 ≡ get_or (p ∷ mid_of at (count + 1 - at) before) k 0) → take (count + 1) (put_mid at (count + 1 - at) before part) ≡ insert (take count before) at p
+inserted before part count at p inside room len moved =
+    let m = count - at in
+    let mid = mid_of at (count + 1 - at) before in
+    let whole : at + m ≡ count = omega arith in
+    let lt = length-take-le (count + 1 - at) (drop at before) (omega (arith, length-drop at before)) in
+    let lm = length-take-le (suc m) (p ∷ mid) (omega arith) in
+    let first : part ≡ p ∷ drop at (take count before) =
+    ext_get_or 0 part (take (suc m) (p ∷ mid)) (omega arith) (λ k h. moved k h ∙ sym (get_or-take (suc m) (p ∷ mid) k 0 (omega arith)))
+    ∙ ap (λ l. p ∷ l) (take-take m (count + 1 - at) (drop at before) (omega arith) ∙ sym (drop-take at m before) ∙ ap (λ n. drop at (take n before)) whole) in
+    take-put_mid at (count + 1 - at) before part (count + 1) (omega arith) (omega arith)
+    ∙ ap (λ l. l ++ part) (sym (take-take at count before inside))
+    ∙ ap (λ l. take at (take count before) ++ l) first
 
 module _ {K : Type 0} (events : List K) where
   pub picked_append : (ps qs : List ℕ) → picked events (ps ++ qs) ≡ picked events ps ++ picked events qs

@@ -1,12 +1,18 @@
--- The search for the next alike event: what its answer tells.
+-- The search for the next alike event: turn by turn, and what its answer tells.
 use Rattle.std.proofs.Common.{◌≡◌, ℕ, zero, suc, ◌+◌, ◌-◌, ◌<◌, ◌≤◌, Bool, true, false, cond, List, [], ◌∷◌, length, get_or, drop, Some, None, Option, sym, refl, ap, ◌∙◌, arith}
-use Rattle.std.proofs.lemmas.List.{length-drop, get_or-drop}
+use Rattle.std.proofs.lemmas.List.{at_drop_more, at_drop_all, length-drop, get_or-drop}
+use Rattle.std.proofs.lemmas.Bool.{cond-true, cond-false}
 use Rattle.event.specs.declared.order.Order.{Order}
 use Rattle.event.specs.declared.order.Order.TheVariants.{Before, Alike, After}
 use Rattle.event.specs.Orders.{is_alike}
 use Rattle.matching.specs.Inclusion.{first_alike, place_after}
 
-pub alike_from : (o : Order) → is_alike o ≡ true → o ≡ Alike
+pub not_alike : (o : Order) → (o ≡ Alike → ⊥) → is_alike o ≡ false
+not_alike Before other = refl
+not_alike Alike other = absurd (other refl)
+not_alike After other = refl
+
+alike_from : (o : Order) → is_alike o ≡ true → o ≡ Alike
 alike_from Before e = absurd (let z : ◌≡◌ {A = ℕ} 0 1 = cc in omega arith)
 alike_from Alike e = refl
 alike_from After e = absurd (let z : ◌≡◌ {A = ℕ} 0 1 = cc in omega arith)
@@ -17,6 +23,24 @@ chosen_none true n o e = absurd (let z : ◌≡◌ {A = ℕ} 0 1 = cc in omega a
 chosen_none false n o e = (refl, e)
 
 module _ {K : Type 0} (order : K → K → Order) where
+  -- a turn that goes on, one that stops, and the end
+  module _ (tape : List K) (i : ℕ) (event x : K) (within : i < length tape) (is : x ≡ get_or tape i x) where
+    turn : place_after order tape i event ≡ cond (is_alike (order x event)) (Some (i + 1)) (place_after order tape (i + 1) event)
+    turn =
+        at_drop_more (λ (xs : List K). first_alike order xs i event) tape i x within
+        ∙ ap (λ (y : K). cond (is_alike (order y event)) (Some (i + 1)) (place_after order tape (i + 1) event)) (sym is)
+
+    pub search_on : (order x event ≡ Alike → ⊥) → place_after order tape (i + 1) event ≡ place_after order tape i event
+    search_on other =
+        sym (turn ∙ cond-false (is_alike (order x event)) (Some (i + 1)) (place_after order tape (i + 1) event) (not_alike (order x event) other))
+
+    pub search_here : order x event ≡ Alike → Some (i + 1) ≡ place_after order tape i event
+    search_here same =
+        sym (turn ∙ cond-true (is_alike (order x event)) (Some (i + 1)) (place_after order tape (i + 1) event) (ap is_alike same))
+
+  pub search_all : (tape : List K) (i : ℕ) (event : K) → length tape ≤ i → None ≡ place_after order tape i event
+  search_all tape i event h = sym (at_drop_all (λ (xs : List K). first_alike order xs i event) tape i h)
+
   -- where there is none, no event is alike
   none_in : (xs : List K) (place : ℕ) (event : K) → first_alike order xs place event ≡ None → (k : ℕ) (d : K) → k < length xs → order (get_or xs k d) event ≡ Alike → ⊥
   none_in [] place event e k d h s = omega arith

@@ -9,24 +9,24 @@ pub fn place_after<K: Kind>(tape: &[K], from: usize, event: &K) -> Option<usize>
     ensures value { result ≡ place_after K.Kind.order tape.now from event.now }
     ensures bound { IfSome result (λ place. (from < place) × (place ≤ length tape.now)) }
 {
-    let mut rest = tape.get(from..)?;
-    // a copy, so that the event is read once and not at each turn
-    let event = *event;
-    // two events in a turn, so that fewer turns are tested
-    // (position was tried: it takes 1.4 times as long as plain Rust)
-    while let [first, second, more @ ..] = rest {
-        if first.compare(&event) == Order::Alike {
-            return Some(tape.len() - more.len() - 1);
+    let last = tape.len().saturating_sub(1);
+    let mut i = from;
+    // two events in a turn, so that fewer turns are tested; by index: slice patterns and position miss the bar of speed
+    while i < last {
+        if let Order::Alike = tape[i].compare(event) {
+            return Some(i + 1);
         }
-        if second.compare(&event) == Order::Alike {
-            return Some(tape.len() - more.len());
+        if let Order::Alike = tape[i + 1].compare(event) {
+            return Some(i + 2);
         }
-        rest = more;
+        i += 2;
     }
-    match rest {
-        [last] if last.compare(&event) == Order::Alike => Some(tape.len()),
-        _ => None,
+    if i < tape.len() {
+        if let Order::Alike = tape[i].compare(event) {
+            return Some(i + 1);
+        }
     }
+    None
 }
 
 /// Whether a tape includes a pattern.

@@ -11,6 +11,7 @@ use bundle::reader::MOST_EVENTS;
 use event::kind::Kind;
 use event::order::Order;
 use event::refusal::Refusal;
+use std::mem::replace;
 
 // A rising lexicon, kept as the places of its events among those that it is learned from.
 #[derive(Drop)]
@@ -88,15 +89,18 @@ fn insert_place(places: &mut [u16], count: usize, at: usize, place: u16)
     requires room { count < length places.old }
     ensures { take (count + 1) places.new ≡ insert (take count places.old) at place }
 {
-    places[count] = place;
-    places[at..=count].rotate_right(1);
+    // carried along: rotate_right would ask a C program for memmove
+    let mut carried = place;
+    for slot in places[at..=count].iter_mut() {
+        carried = replace(slot, carried);
+    }
 }
 
 // Gathers the first events of their classes, in rising order, with their places at a row's front; none if there are more than so many.
 fn gather<'e, K: Kind>(events: &'e [K], most: usize, places: &'e mut [u16]) -> Option<Picks<'e, K>>
     requires few { length events.now ≤ 65535 }
     requires room { most ≤ length places.old }
-    ensures { MatchOption result (most < length (learned K.Kind.order events.now)) (λ picks. (length picks.places.now ≤ most) × (picked picks.events.now picks.places.now ≡ learned K.Kind.order events.now)) }
+    ensures { MatchOption result (most < length (learned K.Kind.order events.now)) (λ picks. (length picks.places.now ≤ most) × (picked picks.events.now picks.places.now ≡ learned K.Kind.order events.now) × (picks.events.now ≡ events.now)) }
 {
     let mut count = 0;
     for (i, event) in events.iter().enumerate() {
