@@ -16,6 +16,9 @@ impl<'a, K: Kind> Walk<'a, K> {
     pub fn fresh(blank: K, heap: Global) -> Result<Walk<'a, K>, AllocError>
         ensures { IfOk result (λ walk. Fresh K.Kind.order walk) }
     {
+        let mut room = Vec::new(heap);
+        // copied, and not cloned as vec! does: a clone may fail
+        room.resize(MOST_LENGTH, blank)?;
         Ok(Walk {
             trail: Trail::open(
                 Tapes {
@@ -24,7 +27,7 @@ impl<'a, K: Kind> Walk<'a, K> {
                 },
                 &[],
             ),
-            room: vec![in heap; blank; MOST_LENGTH]?,
+            room,
             longest: 0,
         })
     }
