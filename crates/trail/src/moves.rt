@@ -86,7 +86,8 @@ impl<'a, K: Kind> Trail<'a, K> {
         ensures sound { Sound K.Kind.order self.old → Sound K.Kind.order self.new }
     {
         let mut trial = Trial::new(&mut self.head);
-        trial.run(&mut self.rows, self.tapes, event, 0).unwrap_or(0)
+        let answer = trial.run(&mut self.rows, self.tapes, event, 0);
+        answer.unwrap_or(0)
     }
 
     /// The support of the list.

@@ -1,4 +1,4 @@
-use Rattle.std.proofs.Common.{◌≡◌, ℕ, ◌≤◌, length, vec_items, sym, ap, ◌∙◌, subst}
+use Rattle.std.proofs.Common.{◌≡◌, ℕ, ◌≤◌, length, vec_items, sym, ap, ◌∙◌, subst, arith}
 use Rattle.std.proofs.lemmas.Result.{err_from_is_err_and}
 use Rattle.grammar.proofs.Numbers.{reads_numbered, reads_leaves}
 use Rattle.regular.specs.Automata.{Numbered}
@@ -25,9 +25,9 @@ pub returns-in_err-rooted : goal.returns-in_err-rooted
 returns-in_err-rooted g c =
     let h = c.in_err-rooted.ensures in
     let p = err_from_is_err_and c.from_residual-in_err-rooted.result c.from_residual-in_err-rooted.ensures.1 in
-    rw (p.1, p.2, h.2) (not_read g.K.Kind.labelled c.args.text.now c.if-text-gt-MOST_TEXT.false _ _ c.in_ok-cut.ensures h.1)
+    rw (p.1, p.2, h.2) (not_read g.K.Kind.labelled c.args.text.now (omega arith) _ _ c.in_ok-cut.ensures h.1)
 
 pub returns : goal.returns
 returns g c =
     let made = c.in_ok-expression.ensures in
-    read_as g.K.Kind.labelled c.args.text.now c.if-text-gt-MOST_TEXT.false _ _ _ _ c.in_ok-cut.ensures c.in_ok-rooted.ensures made.tree (made.labels ∙ c.in_ok-leaves.ensures)
+    read_as g.K.Kind.labelled c.args.text.now (omega arith) _ _ _ _ c.in_ok-cut.ensures c.in_ok-rooted.ensures made.tree (made.labels ∙ c.in_ok-leaves.ensures)
